@@ -1,0 +1,10 @@
+pub mod Taking
+pub mod Reading
+pub mod Linking
+pub mod Legal
+pub mod Gathering
+pub mod Extending
+pub mod Placing
+pub mod Pulling
+pub mod Stepping
+pub mod Whole

@@ -1,0 +1,3 @@
+// The terms that every crate shares: refusals and the rows of a part book.
+pub mod refusal;
+pub mod row;
