@@ -11,7 +11,7 @@ use classes::ClassSet;
 use classes::ClassSetPartialEq;
 
 // The union of the sets at `base + k` for the classes k of the set.
-pub fn gather(table: &[ClassSet], base: usize, set: ClassSet) -> ClassSet
+pub(crate) fn gather(table: &[ClassSet], base: usize, set: ClassSet) -> ClassSet
     requires { ⌜ base + 64 ≤ length (now table) ⌝ }
     ensures { λ r. ⌜ Gathered (now (table .entry)) base set r ⌝ }
 {
@@ -47,7 +47,7 @@ fn extend(within: &mut [ClassSet; 64], a: u8, more: ClassSet) -> ClassSet
 }
 
 // Class `a` lies within the classes of the set, and within all that they lie within.
-pub fn place(within: &mut [ClassSet; 64], a: u8, set: ClassSet) -> ClassSet
+pub(crate) fn place(within: &mut [ClassSet; 64], a: u8, set: ClassSet) -> ClassSet
     requires { ⌜ a < 64 ⌝ }
     ensures placed { λ r. ⌜ Placed (now (within .entry)) a set (now (within .exit)) r ⌝ }
     ensures heavier { λ r. ⌜ Heavier (now (within .entry)) r (now (within .exit)) ⌝ }

@@ -14,7 +14,7 @@ use crate::links::Links;
 use classes::ClassSet;
 
 // Each class lies within itself.
-pub fn reflexive() -> [ClassSet; 64]
+pub(crate) fn reflexive() -> [ClassSet; 64]
     ensures { λ r. ⌜ ((A B : ℕ) → At r A B ↔ ((A ≡ B) × (A < 64))) ⌝ }
 {
     let mut within = [ClassSet::NONE; 64];
@@ -25,7 +25,7 @@ pub fn reflexive() -> [ClassSet; 64]
 }
 
 // Adds what the rows of kind 1 say.
-pub fn climb(within: &mut [ClassSet; 64], links: &Links)
+pub(crate) fn climb(within: &mut [ClassSet; 64], links: &Links)
     ensures { λ _. ⌜ ((R : List Rule) → Direct R (now (links .entry)) → Low R → Sound R (now (within .entry)) → Ordered (now (within .entry)) → Ready R (now (within .exit))) ⌝ }
 {
     for a in 0..64u8 {
@@ -73,7 +73,7 @@ fn every_class() -> ClassSet
 }
 
 // Adds all that the rows of kind 4 pull back; a class waits until it has been looked at since the sets it needs grew.
-pub fn settle(within: &mut [ClassSet; 64], links: &Links)
+pub(crate) fn settle(within: &mut [ClassSet; 64], links: &Links)
     ensures { λ _. ⌜ ((R : List Rule) → Direct R (now (links .entry)) → Low R → Ready R (now (within .entry)) → Open R (now (within .exit)) none) ⌝ }
 {
     let mut waiting = every_class();
@@ -93,7 +93,7 @@ fn led(within: &[ClassSet; 64], links: &Links, i: usize) -> ClassSet
 }
 
 // The classes that each class leads to by each feature.
-pub fn leads_table(within: &[ClassSet; 64], links: &Links) -> [ClassSet; 1024]
+pub(crate) fn leads_table(within: &[ClassSet; 64], links: &Links) -> [ClassSet; 1024]
     ensures { λ r. ⌜ ((i : ℕ) → i < 1024 → Led (now (within .entry)) (now (links .entry) .ahead) i (set-at r i)) ⌝ }
 {
     let mut leads = [ClassSet::NONE; 1024];

@@ -2,3 +2,4 @@ pub mod Refusals
 pub mod Rows
 pub mod Worlds
 pub mod Steps
+pub mod Examples

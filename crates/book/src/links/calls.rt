@@ -37,7 +37,7 @@ impl Links {
     }
 
     // The links of the rows.
-    pub fn of(rows: &[Row]) -> Links
+    pub(crate) fn of(rows: &[Row]) -> Links
         requires { ⌜ all-lawful (now rows) ≡ true ⌝ }
         ensures { λ r. ⌜ Direct (rules-of (now (rows .entry))) r ⌝ }
     {
