@@ -16,7 +16,7 @@ use Rattle.book.specs.Tables.{set-at, At}
 use Rattle.book.specs.Sealing.{widened, missing, Heavier, Extending, Extended}
 
 missing-set : (w : List ClassSet) (a : ℕ) (s : ClassSet) → a < length w → weight s ≤ 2 ^ 64 → weight (set-at w a) ≤ weight s
-  → missing (set w a s) + weight s ≡ missing w + weight (set-at w a)
+    → missing (set w a s) + weight s ≡ missing w + weight (set-at w a)
 unfolding missing
 missing-set [] a s h b l = absurd (omega arith)
 missing-set (x ∷ w) zero s h b l = omega arith
@@ -40,14 +40,15 @@ module _ (w : List ClassSet) (a : ℕ) (more : ClassSet) (n : ℕ) (v : List Cla
   new = ap (λ (s : ClassSet). widened s a more) (e .later n (omega arith))
 
   pub extend-same : set-at v n ≡ widened (set-at v n) a more → Extending w a more (n + 1) v g
-  extend-same h = record
-    { each = λ X l. elim (cases-eq X n)
-        [ inl q ↦ subst (λ (i : ℕ). set-at v i ≡ widened (set-at w i) a more) (sym q) (h ∙ new) | inr ne ↦ e .each X (omega arith) ]
-    ; later = λ X l. e .later X (omega arith)
-    ; kept = e .kept }
+  extend-same h = record {
+    each = λ X l. elim (cases-eq X n)
+        [ inl q ↦ subst (λ (i : ℕ). set-at v i ≡ widened (set-at w i) a more) (sym q) (h ∙ new) | inr ne ↦ e .each X (omega arith) ];
+    later = λ X l. e .later X (omega arith);
+    kept = e .kept;
+  }
 
   module _ (s h : ClassSet) (is : s ≡ widened (set-at v n) a more) (long : length v ≡ 64) (low : n < 64)
-    (also : (k : ℕ) → has h k ≡ (has g k || (eqb k n && ltb k 64))) where
+      (also : (k : ℕ) → has h k ≡ (has g k || (eqb k n && ltb k 64))) where
     here : set-at (set v n s) n ≡ s
     here = getD-set-same v n s none (omega arith)
 
@@ -55,15 +56,17 @@ module _ (w : List ClassSet) (a : ℕ) (more : ClassSet) (n : ℕ) (v : List Cla
     there X ne = getD-set-other v n X s none ne
 
     pub extend-grown : Extending w a more (n + 1) (set v n s) h
-    extend-grown = record
-      { each = λ X l. elim (cases-eq X n)
-          [ inl q ↦ subst (λ (i : ℕ). set-at (set v n s) i ≡ widened (set-at w i) a more) (sym q) (here ∙ (is ∙ new))
-          | inr ne ↦ there X ne ∙ e .each X (omega arith) ]
-      ; later = λ X l. there X (omega arith) ∙ e .later X (omega arith)
-      ; kept = λ X f.
+    extend-grown = record {
+      each = λ X l. elim (cases-eq X n) [
+        | inl q ↦ subst (λ (i : ℕ). set-at (set v n s) i ≡ widened (set-at w i) a more) (sym q) (here ∙ (is ∙ new))
+        | inr ne ↦ there X ne ∙ e .each X (omega arith)
+      ];
+      later = λ X l. there X (omega arith) ∙ e .later X (omega arith);
+      kept = λ X f.
           let p = or-parts (has g X) _ (sym (also X) ∙ f) in
           let ne : X ≢ n = λ q. false≢true (sym (p .1) ∙ and-from _ _ (eq-eqb X n q) (lt-ltb X 64 (omega arith))) in
-          there X ne ∙ e .kept X (p .0) }
+          there X ne ∙ e .kept X (p .0);
+    }
 
     pub extend-heavier : (set-at v n ≢ s) → weight s < 2 ^ 64 → Heavier w g v → Heavier w h (set v n s)
     extend-heavier ne fit k =
@@ -74,12 +77,14 @@ module _ (w : List ClassSet) (a : ℕ) (more : ClassSet) (n : ℕ) (v : List Cla
         record { least = omega arith; unless = inr (omega arith) }
 
 pub extend-all : (w : List ClassSet) (a : ℕ) (more : ClassSet) (n : ℕ) (v : List ClassSet) (g : ClassSet) → length w ≡ 64 → length v ≡ 64 → 64 ≤ n
-  → Extending w a more n v g → Extended w a more v g
-extend-all w a more n v g lw lv h e = record
-  { each = λ X. elim (cases-lt X 64)
-      [ inl l ↦ e .each X (omega arith)
-      | inr l ↦ getD-past v X none (omega arith) ∙ (sym still ∙ ap (λ (s : ClassSet). widened s a more) (sym (getD-past w X none (omega arith)))) ]
-  ; kept = e .kept }
+    → Extending w a more n v g → Extended w a more v g
+extend-all w a more n v g lw lv h e = record {
+  each = λ X. elim (cases-lt X 64) [
+    | inl l ↦ e .each X (omega arith)
+    | inr l ↦ getD-past v X none (omega arith) ∙ (sym still ∙ ap (λ (s : ClassSet). widened s a more) (sym (getD-past w X none (omega arith))))
+  ];
+  kept = e .kept;
+}
   where
     still : widened none a more ≡ none
     still = ap (λ (b : Bool). cond b (joined none more) none) (has-none a)

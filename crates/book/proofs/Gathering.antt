@@ -19,9 +19,10 @@ pub gather-none : (table : List ClassSet) (base : ℕ) (s : ClassSet) → Gather
 gather-none table base s = record { from = λ B h. not-in-none B h; all = λ k B h _. inl h; part = λ k h. h }
 
 pub gather-all : (table : List ClassSet) (base : ℕ) (s rest r : ClassSet) → rest ≡ none → Gathering table base s rest r → Gathered table base s r
-gather-all table base s rest r e g = record
-  { from = g .from
-  ; all = λ k B h a. elim (g .all k B h a) [ inl x ↦ not-in-none k (subst (λ (t : ClassSet). has t k ≡ true) e x) | inr x ↦ x ] }
+gather-all table base s rest r e g = record {
+  from = g .from;
+  all = λ k B h a. elim (g .all k B h a) [ inl x ↦ not-in-none k (subst (λ (t : ClassSet). has t k ≡ true) e x) | inr x ↦ x ];
+}
 
 -- at the base 0
 module _ {table : List ClassSet} {s r : ClassSet} (g : Gathered table 0 s r) where

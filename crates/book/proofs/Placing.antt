@@ -32,7 +32,7 @@ widened-new : (s : ClassSet) (a : ℕ) (more : ClassSet) (B : ℕ) → has s a �
 widened-new s a more B e h = ap (λ (b : Bool). has (cond b (joined s more) s) B) e ∙ (has-joined s more B ∙ or-right _ _ h)
 
 module _ (w : List ClassSet) (a : ℕ) (s more : ClassSet) (v : List ClassSet) (g : ClassSet)
-  (low : a < 64) (fit : weight s < 2 ^ 64) (ga : Gathered w 0 s more) (ex : Extended w a more v g) where
+    (low : a < 64) (fit : weight s < 2 ^ 64) (ga : Gathered w 0 s more) (ex : Extended w a more v g) where
   at-from : (X B : ℕ) → At v X B → At w X B ⊎ (At w X a × (has more B ≡ true))
   at-from X B h = widened-from (set-at w X) a more B (subst (λ (t : ClassSet). has t B ≡ true) (ex .each X) h)
 
@@ -51,20 +51,23 @@ module _ (w : List ClassSet) (a : ℕ) (s more : ClassSet) (v : List ClassSet) (
     where
       trans : (A B C : ℕ) → At v A B → At v B C → At v A C
       trans A B C p q =
-          elim (at-from A B p)
-          [ inl x ↦ elim (at-from B C q) [ inl y ↦ at-old A C (o .trans A B C x y) | inr y ↦ at-new A C (o .trans A B a x (y .0)) (y .1) ]
-          | inr x ↦ elim (at-from B C q) [ inl y ↦ at-new A C (x .0) (more-up o B C (x .1) y) | inr y ↦ at-new A C (x .0) (y .1) ] ]
+          elim (at-from A B p) [
+            | inl x ↦ elim (at-from B C q) [ inl y ↦ at-old A C (o .trans A B C x y) | inr y ↦ at-new A C (o .trans A B a x (y .0)) (y .1) ]
+            | inr x ↦ elim (at-from B C q) [ inl y ↦ at-new A C (x .0) (more-up o B C (x .1) y) | inr y ↦ at-new A C (x .0) (y .1) ]
+          ]
 
   sounds : (R : List Rule) → Sound R w → ((B : ℕ) → has s B ≡ true → Within R a B) → Sound R v
   sounds R so in-s A B h =
-      elim (at-from A B h)
-      [ inl x ↦ so A B x
-      | inr x ↦ let t = gathered-from ga B (x .1) in chained (so A a (x .0)) (chained (in-s (t .0) (t .1)) (so (t .0) B (t .2))) ]
+      elim (at-from A B h) [
+        | inl x ↦ so A B x
+        | inr x ↦ let t = gathered-from ga B (x .1) in chained (so A a (x .0)) (chained (in-s (t .0) (t .1)) (so (t .0) B (t .2)))
+      ]
 
   pub placed : Placed w a s v g
-  placed = record
-    { grew = at-old
-    ; kept = ex .kept
-    ; ordered = order
-    ; there = λ o B h. at-new a B (o .refl a low) (gathered-all ga B B h (o .refl B (has-low s B fit h)))
-    ; sound = sounds }
+  placed = record {
+    grew = at-old;
+    kept = ex .kept;
+    ordered = order;
+    there = λ o B h. at-new a B (o .refl a low) (gathered-all ga B B h (o .refl B (has-low s B fit h)));
+    sound = sounds;
+  }

@@ -15,15 +15,14 @@ use Rattle.book.specs.declared.links.Links.{Links}
 use Rattle.book.proofs.Gathering.{gathered-from, gathered-all}
 
 module _ (links : Links) (w v : List ClassSet) (a f : ℕ) (low : a < 64) (less : f < 16) (led back grown again : ClassSet)
-  (l : Gathered w 0 (set-at (links .ahead) (64 * f + a)) led) (b : Gathered (links .behind) (64 * f) led back)
-  (p : Placed w a back v grown) (i : Gathered (links .into) 0 grown again) (R : List Rule) (d : Direct R links) where
-
+    (l : Gathered w 0 (set-at (links .ahead) (64 * f + a)) led) (b : Gathered (links .behind) (64 * f) led back)
+    (p : Placed w a back v grown) (i : Gathered (links .into) 0 grown again) (R : List Rule) (d : Direct R links) where
   back-within : Sound R w → (C : ℕ) → has back C ≡ true → Within R a C
   back-within so C h =
       let t = b .from C h in
       let u = gathered-from l (t .0) (t .2) in
       pulled (widened itself (by-value (d .ahead-is a f (u .0) low less .0 (u .1))) (so (u .0) (t .0) (u .2)))
-        (d .behind-is (t .0) f C (t .1) less .0 (t .3))
+      (d .behind-is (t .0) f C (t .1) less .0 (t .3))
 
   -- what a class that need not be looked at again leads to has not grown
   still : (A g D : ℕ) → has again A ≡ false → value A g D ∈ R → set-at v D ≡ set-at w D
@@ -32,11 +31,12 @@ module _ (links : Links) (w v : List ClassSet) (a f : ℕ) (low : a < 64) (less 
       [ inl x ↦ absurd (both-ways (has again A) h (gathered-all i D A x (d .into-has A g D m))) | inr x ↦ x ])
 
   pub pull-step : Step R w again v
-  pull-step = record
-    { grew = p .grew
-    ; ordered = p .ordered
-    ; sound = λ so. p .sound R so (back-within so)
-    ; keeps = λ A g h s D B C m e q. p .grew A C (s D B C m (subst (λ (t : ClassSet). has t B ≡ true) (still A g D h m) e) q) }
+  pull-step = record {
+    grew = p .grew;
+    ordered = p .ordered;
+    sound = λ so. p .sound R so (back-within so);
+    keeps = λ A g h s D B C m e q. p .grew A C (s D B C m (subst (λ (t : ClassSet). has t B ≡ true) (still A g D h m) e) q);
+  }
 
   pub pull-served : Low R → Ordered w → has again a ≡ false → Served R v a f
   pull-served lo o h D B C m e q =

@@ -19,9 +19,10 @@ nothing B h = absurd (false≢true (sym (has-none B) ∙ h))
 
 module _ (R : List Rule) (w l : List ClassSet) (s : ∥ Steps R w l ∥₁) where
   pub within-answer : (A B : ℕ) → A < 64 → At w A B ↔ ((A < 64) × ∥ Within R A B ∥₁)
-  within-answer A B low =
-      ( (λ h. (low, ∥∥₁-map s (λ t. t .within-is A B low .0 h)))
-      , (λ p. ∥∥₁-elim (p .1) (Bool-set _ _) (λ v. ∥∥₁-elim s (Bool-set _ _) (λ t. t .within-is A B low .1 v))) )
+  within-answer A B low = (
+    (λ h. (low, ∥∥₁-map s (λ t. t .within-is A B low .0 h))),
+    (λ p. ∥∥₁-elim (p .1) (Bool-set _ _) (λ v. ∥∥₁-elim s (Bool-set _ _) (λ t. t .within-is A B low .1 v))),
+  )
 
   pub within-holds : (A B : ℕ) → A < 64 → At w A B → AlwaysWithin R A B
   within-holds A B low a W k x h = ∥∥₁-elim s (Bool-set _ _) (λ t. within-true (t .within-is A B low .0 a) W k x h)
@@ -30,18 +31,20 @@ module _ (R : List Rule) (w l : List ClassSet) (s : ∥ Steps R w l ∥₁) wher
   within-none A B high = (nothing B, (λ p. let z = p .0 in absurd (omega arith)))
 
   pub leads-answer : (A f B : ℕ) → A < 64 → f < 16 → At l (64 * f + A) B ↔ ∥ Leads R A f B ∥₁
-  leads-answer A f B a b =
-      ( (λ h. ∥∥₁-map s (λ t. t .leads-is A f B a b .0 h))
-      , (λ p. ∥∥₁-elim p (Bool-set _ _) (λ v. ∥∥₁-elim s (Bool-set _ _) (λ t. t .leads-is A f B a b .1 v))) )
+  leads-answer A f B a b = (
+    (λ h. ∥∥₁-map s (λ t. t .leads-is A f B a b .0 h)),
+    (λ p. ∥∥₁-elim p (Bool-set _ _) (λ v. ∥∥₁-elim s (Bool-set _ _) (λ t. t .leads-is A f B a b .1 v))),
+  )
 
   pub leads-holds : (A f B : ℕ) → A < 64 → f < 16 → At l (64 * f + A) B → AlwaysLeads R A f B
   leads-holds A f B a b h W k x i = ∥∥₁-elim s (Bool-set _ _) (λ t. leads-true (t .leads-is A f B a b .0 h) W k x i)
 
   pub leads-none : (A f B : ℕ) → (64 ≤ A) ⊎ (16 ≤ f) → (has none B ≡ true) ↔ ∥ Leads R A f B ∥₁
-  leads-none A f B high =
-      ( nothing B
-      , (λ p. ∥∥₁-elim p (Bool-set _ _) (λ v. ∥∥₁-elim s (Bool-set _ _) (λ t. let z = t .leads-low A f B v in
-          elim high [ inl a ↦ absurd (omega arith) | inr b ↦ absurd (omega arith) ]))) )
+  leads-none A f B high = (
+    nothing B,
+    (λ p. ∥∥₁-elim p (Bool-set _ _) (λ v. ∥∥₁-elim s (Bool-set _ _) (λ t. let z = t .leads-low A f B v in
+        elim high [ inl a ↦ absurd (omega arith) | inr b ↦ absurd (omega arith) ]))),
+  )
 
 pub none-holds : {P : Type 0} (B : ℕ) → has none B ≡ true → P
 none-holds = nothing

@@ -35,13 +35,15 @@ module _ (rows : List Row) (row : Row) where
   pub rule-law : (r : Result ℕ Refusal) → numbered r ≡ asked (rule-questions rows row) (length rows) → RuleLaw rows row r
   rule-law r e =
       let a = answers (length rows) (rule-questions rows row) (numbered r) e in
-      record
-        { taken =
-          ( (λ t. let y = a .done .0 (ap numbered t) in
-              (yes-lawful row (y .0, (y .1 .0, (y .1 .1 .0, (y .1 .1 .1 .0, tt)))), ltb-true _ _ (y .1 .1 .1 .1 .0)))
-          , (λ l. let y = lawful-yes row (l .0) in
-              numbered-ok r (length rows) (a .done .1 (y .0, (y .1 .0, (y .1 .1 .0, (y .1 .1 .1 .0, (lt-ltb _ _ (l .1), tt))))))) )
-        ; refused = a .refused }
+      record {
+        taken = (
+          (λ t. let y = a .done .0 (ap numbered t) in
+              (yes-lawful row (y .0, (y .1 .0, (y .1 .1 .0, (y .1 .1 .1 .0, tt)))), ltb-true _ _ (y .1 .1 .1 .1 .0))),
+          (λ l. let y = lawful-yes row (l .0) in
+              numbered-ok r (length rows) (a .done .1 (y .0, (y .1 .0, (y .1 .1 .0, (y .1 .1 .1 .0, (lt-ltb _ _ (l .1), tt))))))),
+        );
+        refused = a .refused;
+      }
 
   -- a row that its own questions refuse
   pub row-refused : (n : ℕ) → _≡_ {A = Result (Unit {0}) ℕ} (Err n) (asked (row-questions row) tt) → Err n ≡ asked (rule-questions rows row) (length rows)
@@ -65,7 +67,7 @@ lawful-push (r ∷ rows) row h e =
 
 -- the table with one row more
 pub lawful-more : (rows : List Row) (used : ℕ) (row : Row) → length rows ≡ 256 → used < 256 → lawful row ≡ true
-  → all-lawful (take used rows) ≡ true → all-lawful (take (used + 1) (set rows used row)) ≡ true
+    → all-lawful (take used rows) ≡ true → all-lawful (take (used + 1) (set rows used row)) ≡ true
 lawful-more rows used row n a e h =
     let m : take (used + 1) (set rows used row) ≡ take used rows ++ row ∷ [] = take-more-set rows used row (omega arith) in
     rw m (lawful-push (take used rows) row h e)

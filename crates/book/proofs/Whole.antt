@@ -20,9 +20,10 @@ module _ (w : List ClassSet) (r : (A B : ℕ) → At w A B ↔ ((A ≡ B) × (A 
   alone-sound R A B h = subst (λ (x : ℕ). Within R A x) (r A B .0 h .0) itself
 
   pub alone-ordered : Ordered w
-  alone-ordered = record
-    { refl = λ A l. r A A .1 (refl, l)
-    ; trans = λ A B C p q. let a = r A B .0 p in r A C .1 (a .0 ∙ r B C .0 q .0, a .1) }
+  alone-ordered = record {
+    refl = λ A l. r A A .1 (refl, l);
+    trans = λ A B C p q. let a = r A B .0 p in r A C .1 (a .0 ∙ r B C .0 q .0, a .1);
+  }
 
 module _ (R : List Rule) (lo : Low R) where
   mutual
@@ -30,18 +31,20 @@ module _ (R : List Rule) (lo : Low R) where
     within-low itself = inl refl
     within-low (by-rule m) = inr (lo .sub _ _ m)
     within-low (chained {A} {B} {C} p q) =
-        elim (within-low p)
-        [ inl e ↦ subst (λ (x : ℕ). (x ≡ C) ⊎ ((x < 64) × (C < 64))) (sym e) (within-low q)
-        | inr x ↦ inr (x .0, elim (within-low q) [ inl e ↦ subst (λ (y : ℕ). y < 64) e (x .1) | inr y ↦ y .1 ]) ]
+        elim (within-low p) [
+          | inl e ↦ subst (λ (x : ℕ). (x ≡ C) ⊎ ((x < 64) × (C < 64))) (sym e) (within-low q)
+          | inr x ↦ inr (x .0, elim (within-low q) [ inl e ↦ subst (λ (y : ℕ). y < 64) e (x .1) | inr y ↦ y .1 ])
+        ]
     within-low (pulled l m) = inr (leads-low l .0, lo .pull _ _ _ m .2)
 
     pub leads-low : {A f B : ℕ} → Leads R A f B → (A < 64) × (f < 16) × (B < 64)
     leads-low (by-value m) = lo .val _ _ _ m
     leads-low (widened {A} {C} {f} {D} {B} p l q) =
-        let t = leads-low l in
-        ( elim (within-low p) [ inl e ↦ subst (λ (y : ℕ). y < 64) (sym e) (t .0) | inr x ↦ x .0 ]
-        , t .1
-        , elim (within-low q) [ inl e ↦ subst (λ (y : ℕ). y < 64) e (t .2) | inr x ↦ x .1 ] )
+        let t = leads-low l in (
+          elim (within-low p) [ inl e ↦ subst (λ (y : ℕ). y < 64) (sym e) (t .0) | inr x ↦ x .0 ],
+          t .1,
+          elim (within-low q) [ inl e ↦ subst (λ (y : ℕ). y < 64) e (t .2) | inr x ↦ x .1 ],
+        )
 
   low-up : {A B : ℕ} → Within R A B → A < 64 → B < 64
   low-up p l = elim (within-low p) [ inl e ↦ subst (λ (y : ℕ). y < 64) e l | inr x ↦ x .1 ]
@@ -65,26 +68,30 @@ module _ (R : List Rule) (lo : Low R) where
       ways (by-value m) = let t = lo .val _ _ _ m in (_, _, order .refl _ (t .0), m, order .refl _ (t .2))
       ways (widened p l q) =
           let t = ways l in
-          let s = leads-low (widened p l q) in
-          ( t .0, t .1
-          , order .trans _ _ _ (whole p (s .0)) (t .2)
-          , t .3
-          , order .trans _ _ _ (t .4) (whole q (leads-low l .2)) )
+          let s = leads-low (widened p l q) in (
+            t .0,
+            t .1,
+            order .trans _ _ _ (whole p (s .0)) (t .2),
+            t .3,
+            order .trans _ _ _ (t .4) (whole q (leads-low l .2)),
+          )
 
     pub exact : (links : Links) (leads : List ClassSet) → Direct R links → ((i : ℕ) → i < 1024 → Led w (links .ahead) i (set-at leads i)) → Steps R w leads
-    exact links leads d h = record
-      { within-is = λ A B l. ((λ a. o .ready .sound A B a), (λ p. whole p l))
-      ; leads-is = λ A f B a b.
+    exact links leads d h = record {
+      within-is = λ A B l. ((λ a. o .ready .sound A B a), (λ p. whole p l));
+      leads-is = λ A f B a b.
           let i = 64 * f + A in
           let at : Led w (links .ahead) i (set-at leads i) = h i (omega arith) in
-          let m : i % 64 ≡ A = omega arith in
-          ( (λ k. let t = at .from B k in
-              let q : i - i % 64 + t .0 ≡ 64 * f + t .0 = omega arith in
-              widened (o .ready .sound A (t .0) (subst (λ (x : ℕ). At w x (t .0)) m (t .3)))
+          let m : i % 64 ≡ A = omega arith in (
+            (λ k. let t = at .from B k in
+                let q : i - i % 64 + t .0 ≡ 64 * f + t .0 = omega arith in
+                widened (o .ready .sound A (t .0) (subst (λ (x : ℕ). At w x (t .0)) m (t .3)))
                 (by-value (d .ahead-is (t .0) f (t .1) (t .2) b .0 (subst (λ (x : ℕ). At (links .ahead) x (t .1)) q (t .4))))
-                (o .ready .sound (t .1) B (t .5)))
-          , (λ p. let t = ways p in
-              let q : 64 * f + t .0 ≡ i - i % 64 + t .0 = omega arith in
-              at .all (t .0) (t .1) B (subst (λ (x : ℕ). At w x (t .0)) (sym m) (t .2))
-                (subst (λ (x : ℕ). At (links .ahead) x (t .1)) q (d .ahead-is (t .0) f (t .1) (lo .val _ _ _ (t .3) .0) b .1 (t .3))) (t .4)) )
-      ; leads-low = λ A f B p. let t = leads-low p in (t .0, t .1) }
+                (o .ready .sound (t .1) B (t .5))),
+            (λ p. let t = ways p in
+                let q : 64 * f + t .0 ≡ i - i % 64 + t .0 = omega arith in
+                at .all (t .0) (t .1) B (subst (λ (x : ℕ). At w x (t .0)) (sym m) (t .2))
+                (subst (λ (x : ℕ). At (links .ahead) x (t .1)) q (d .ahead-is (t .0) f (t .1) (lo .val _ _ _ (t .3) .0) b .1 (t .3))) (t .4)),
+          );
+      leads-low = λ A f B p. let t = leads-low p in (t .0, t .1);
+    }

@@ -1,6 +1,6 @@
 // Part books: a draft takes rows, and sealing finds the class steps of a book.
-pub mod draft;
 mod closing;
+pub mod draft;
 mod links;
-mod sealing;
 pub mod sealed;
+mod sealing;

@@ -37,7 +37,7 @@ module _ {A : Type 0} (x : A) where
   first-at n (q ∷ before) after y = yes-on q (before ++ (ask n false ∷ after)) (y .0) ∙ first-at n before after (y .1)
 
   first-or-later : (q : Question) (qs : List Question) (n : ℕ) (b : Bool) → q .holds ≡ b → asked (q ∷ qs) x ≡ Err n
-    → ((q .holds ≡ false) × (q .number-of ≡ n)) ⊎ ((q .holds ≡ true) × (asked qs x ≡ Err n))
+      → ((q .holds ≡ false) × (q .number-of ≡ n)) ⊎ ((q .holds ≡ true) × (asked qs x ≡ Err n))
   first-or-later q qs n true h e = inr (h, sym (yes-on q qs h) ∙ e)
   first-or-later q qs n false h e =
       let z : _≡_ {A = Result A ℕ} (Err (q .number-of)) (Err n) = sym (no-here q qs h) ∙ e in
@@ -46,18 +46,20 @@ module _ {A : Type 0} (x : A) where
   at-first : (qs : List Question) (n : ℕ) → asked qs x ≡ Err n → FirstNo qs n
   at-first [] n e = absurd (ok-not n (sym e))
   at-first (q ∷ qs) n e =
-      elim (first-or-later q qs n (q .holds) refl e)
-      [ inl p ↦ record { before = []; after = qs; place = ap (λ (z : Question). z ∷ qs) (same q n (p .1) (p .0)); earlier = tt }
-      | inr p ↦ let l = at-first qs n (p .1) in
-        record { before = q ∷ l .before; after = l .after; place = ap (λ (z : List Question). q ∷ z) (l .place); earlier = (p .0, l .earlier) } ]
+      elim (first-or-later q qs n (q .holds) refl e) [
+        | inl p ↦ record { before = []; after = qs; place = ap (λ (z : Question). z ∷ qs) (same q n (p .1) (p .0)); earlier = tt }
+        | inr p ↦ let l = at-first qs n (p .1) in
+            record { before = q ∷ l .before; after = l .after; place = ap (λ (z : List Question). q ∷ z) (l .place); earlier = (p .0, l .earlier) }
+      ]
     where
       same : (q : Question) (n : ℕ) → q .number-of ≡ n → q .holds ≡ false → q ≡ ask n false
       same q n m h = λ i. record { number-of = m i; holds = h i }
 
   pub answers : (qs : List Question) (r : Result A ℕ) → r ≡ asked qs x → Answers qs x r
-  answers qs r e = record
-    { done = ((λ d. yes-all qs (sym e ∙ d)), (λ y. e ∙ all-yes qs y))
-    ; refused = λ n. ((λ d. at-first qs n (sym e ∙ d)), (λ f. e ∙ (ap (λ (z : List Question). asked z x) (f .place) ∙ first-at n (f .before) (f .after) (f .earlier)))) }
+  answers qs r e = record {
+    done = ((λ d. yes-all qs (sym e ∙ d)), (λ y. e ∙ all-yes qs y));
+    refused = λ n. ((λ d. at-first qs n (sym e ∙ d)), (λ f. e ∙ (ap (λ (z : List Question). asked z x) (f .place) ∙ first-at n (f .before) (f .after) (f .earlier))));
+  }
 
 -- questions asked after others that all have yes
 pub asked-on : {A B : Type 0} (qs more : List Question) (x : A) (y : B) → asked qs x ≡ Ok x → asked (qs ++ more) y ≡ asked more y
@@ -71,5 +73,5 @@ pub asked-no : {A B : Type 0} (qs more : List Question) (x : A) (y : B) (n : ℕ
 asked-no qs more x y n e =
     let f = at-first x qs n e in
     let m : qs ++ more ≡ f .before ++ (ask n false ∷ (f .after ++ more)) =
-        ap (λ (z : List Question). z ++ more) (f .place) ∙ append-assoc (f .before) (ask n false ∷ f .after) more in
+    ap (λ (z : List Question). z ++ more) (f .place) ∙ append-assoc (f .before) (ask n false ∷ f .after) more in
     ap (λ (z : List Question). asked z y) m ∙ first-at y n (f .before) (f .after ++ more) (f .earlier)

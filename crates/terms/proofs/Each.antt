@@ -23,14 +23,16 @@ pub each-not : (p : ℕ → Bool) (n k : ℕ) → k < n → p k ≡ false → ea
 unfolding each-below
 each-not p zero k h e = absurd (omega arith)
 each-not p (suc n) k h e =
-    elim (cases-eq k n)
-    [ inl q ↦ and-left (p n) (each-below n p) (subst (λ (x : ℕ). p x ≡ false) q e)
-    | inr ne ↦ and-right (p n) (each-below n p) (each-not p n k (omega arith) e) ]
+    elim (cases-eq k n) [
+      | inl q ↦ and-left (p n) (each-below n p) (subst (λ (x : ℕ). p x ≡ false) q e)
+      | inr ne ↦ and-right (p n) (each-below n p) (each-not p n k (omega arith) e)
+    ]
 
 pub each-at : (p : ℕ → Bool) (n k : ℕ) → each-below n p ≡ true → k < n → p k ≡ true
 unfolding each-below
 each-at p zero k e h = absurd (omega arith)
 each-at p (suc n) k e h =
-    elim (cases-eq k n)
-    [ inl q ↦ subst (λ (x : ℕ). p x ≡ true) (sym q) (and-parts (p n) (each-below n p) e .0)
-    | inr ne ↦ each-at p n k (and-parts (p n) (each-below n p) e .1) (omega arith) ]
+    elim (cases-eq k n) [
+      | inl q ↦ subst (λ (x : ℕ). p x ≡ true) (sym q) (and-parts (p n) (each-below n p) e .0)
+      | inr ne ↦ each-at p n k (and-parts (p n) (each-below n p) e .1) (omega arith)
+    ]

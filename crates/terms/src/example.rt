@@ -12,9 +12,33 @@ pub fn example() -> [Row; 4]
     ensures implied { λ r. ⌜ Within (rules-of r) 0 3 ⌝ }
 {
     [
-        Row { kind: 3, left: 0, right: 1, count: 1, features: [0; 4] },
-        Row { kind: 1, left: 1, right: 2, count: 0, features: [0; 4] },
-        Row { kind: 4, left: 2, right: 3, count: 1, features: [0; 4] },
-        Row { kind: 2, left: 0, right: 3, count: 0, features: [0; 4] },
+        Row {
+            kind: 3,
+            left: 0,
+            right: 1,
+            count: 1,
+            features: [0; 4],
+        },
+        Row {
+            kind: 1,
+            left: 1,
+            right: 2,
+            count: 0,
+            features: [0; 4],
+        },
+        Row {
+            kind: 4,
+            left: 2,
+            right: 3,
+            count: 1,
+            features: [0; 4],
+        },
+        Row {
+            kind: 2,
+            left: 0,
+            right: 3,
+            count: 0,
+            features: [0; 4],
+        },
     ]
 }

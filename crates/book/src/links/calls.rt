@@ -15,7 +15,12 @@ impl Links {
         ensures { λ r. ⌜ Direct [] r ⌝ }
     {
         let none = ClassSet::NONE;
-        Links { above: [none; 64], ahead: [none; 1024], behind: [none; 1024], into: [none; 64] }
+        Links {
+            above: [none; 64],
+            ahead: [none; 1024],
+            behind: [none; 1024],
+            into: [none; 64],
+        }
     }
 
     fn add(&mut self, row: Row)

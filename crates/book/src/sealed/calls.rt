@@ -30,7 +30,12 @@ impl Book {
         climb(&mut within, &links);
         settle(&mut within, &links);
         let leads = leads_table(&within, &links);
-        Book { rows, used, within, leads }
+        Book {
+            rows,
+            used,
+            within,
+            leads,
+        }
     }
 
     // The rows, by their numbers.

@@ -27,27 +27,31 @@ loop-x-again c =
     let v = c .loop-x .within in
     let s = c .widen-new .result in
     let d = c .ne .ensures in
-    elim (c .if-ne .came)
-    [ then-ne w ↦
-      let differ : set-at v x ≢ s = λ q. both-ways (d .0) (not-true (d .0) (sym (d .2) ∙ w .if-ne .taken)) (d .1 .1 (sym (ap weight q))) in
-      let t : set v x s ≡ c .if-ne .within = sym (w .within-is) in
-      let g : w .insert .last .self ≡ c .if-ne .grown = sym (w .grown-is) in
-      let e = extend-grown w₀ a more x v (c .loop-x .grown) (c .loop-x .inv .1) s (w .insert .last .self) (c .widen-new .ensures) (c .loop-x .inv .0) (c .loop-x-test .taken) (w .insert .ensures) in
-      let h = extend-heavier w₀ a more x v (c .loop-x .grown) (c .loop-x .inv .1) s (w .insert .last .self) (c .widen-new .ensures) (c .loop-x .inv .0) (c .loop-x-test .taken) (w .insert .ensures) differ (omega arith) (c .loop-x .inv .2) in
-      ( c .if-ne .array-long
-      , subst (λ (y : ClassSet). Extending w₀ a more (x + 1) (c .if-ne .within) y) g (subst (λ (y : List ClassSet). Extending w₀ a more (x + 1) y (w .insert .last .self)) t e)
-      , subst (λ (y : ClassSet). Heavier w₀ y (c .if-ne .within)) g (subst (λ (y : List ClassSet). Heavier w₀ (w .insert .last .self) y) t h) )
-    | else-ne w ↦
-      let same : s ≡ set-at v x = same-weight s (set-at v x) (d .1 .0 (not-false (d .0) (sym (d .2) ∙ w .if-ne .left))) in
-      let t : v ≡ c .if-ne .within = sym (w .within-is) in
-      let g : c .loop-x .grown ≡ c .if-ne .grown = sym (w .grown-is) in
-      let e = extend-same w₀ a more x v (c .loop-x .grown) (c .loop-x .inv .1) (sym same ∙ c .widen-new .ensures) in
-      ( c .if-ne .array-long
-      , subst (λ (y : ClassSet). Extending w₀ a more (x + 1) (c .if-ne .within) y) g (subst (λ (y : List ClassSet). Extending w₀ a more (x + 1) y (c .loop-x .grown)) t e)
-      , subst (λ (y : ClassSet). Heavier w₀ y (c .if-ne .within)) g (subst (λ (y : List ClassSet). Heavier w₀ (c .loop-x .grown) y) t (c .loop-x .inv .2)) ) ]
+    elim (c .if-ne .came) [
+      | then-ne w ↦
+          let differ : set-at v x ≢ s = λ q. both-ways (d .0) (not-true (d .0) (sym (d .2) ∙ w .if-ne .taken)) (d .1 .1 (sym (ap weight q))) in
+          let t : set v x s ≡ c .if-ne .within = sym (w .within-is) in
+          let g : w .insert .last .self ≡ c .if-ne .grown = sym (w .grown-is) in
+          let e = extend-grown w₀ a more x v (c .loop-x .grown) (c .loop-x .inv .1) s (w .insert .last .self) (c .widen-new .ensures) (c .loop-x .inv .0) (c .loop-x-test .taken) (w .insert .ensures) in
+          let h = extend-heavier w₀ a more x v (c .loop-x .grown) (c .loop-x .inv .1) s (w .insert .last .self) (c .widen-new .ensures) (c .loop-x .inv .0) (c .loop-x-test .taken) (w .insert .ensures) differ (omega arith) (c .loop-x .inv .2) in (
+            c .if-ne .array-long,
+            subst (λ (y : ClassSet). Extending w₀ a more (x + 1) (c .if-ne .within) y) g (subst (λ (y : List ClassSet). Extending w₀ a more (x + 1) y (w .insert .last .self)) t e),
+            subst (λ (y : ClassSet). Heavier w₀ y (c .if-ne .within)) g (subst (λ (y : List ClassSet). Heavier w₀ (w .insert .last .self) y) t h),
+          )
+      | else-ne w ↦
+          let same : s ≡ set-at v x = same-weight s (set-at v x) (d .1 .0 (not-false (d .0) (sym (d .2) ∙ w .if-ne .left))) in
+          let t : v ≡ c .if-ne .within = sym (w .within-is) in
+          let g : c .loop-x .grown ≡ c .if-ne .grown = sym (w .grown-is) in
+          let e = extend-same w₀ a more x v (c .loop-x .grown) (c .loop-x .inv .1) (sym same ∙ c .widen-new .ensures) in (
+            c .if-ne .array-long,
+            subst (λ (y : ClassSet). Extending w₀ a more (x + 1) (c .if-ne .within) y) g (subst (λ (y : List ClassSet). Extending w₀ a more (x + 1) y (c .loop-x .grown)) t e),
+            subst (λ (y : ClassSet). Heavier w₀ y (c .if-ne .within)) g (subst (λ (y : List ClassSet). Heavier w₀ (c .loop-x .grown) y) t (c .loop-x .inv .2)),
+          )
+    ]
 
 pub returns : need.returns
 returns c =
-    record
-      { extended = extend-all (c .args .within .now) (c .args .a) (c .args .more) (c .loop-x .x) (c .loop-x .within) (c .loop-x .grown) (omega arith) (c .loop-x .inv .0) (c .loop-x-test .left) (c .loop-x .inv .1)
-      ; heavier = c .loop-x .inv .2 }
+    record {
+      extended = extend-all (c .args .within .now) (c .args .a) (c .args .more) (c .loop-x .x) (c .loop-x .within) (c .loop-x .grown) (omega arith) (c .loop-x .inv .0) (c .loop-x-test .left) (c .loop-x .inv .1);
+      heavier = c .loop-x .inv .2;
+    }

@@ -11,4 +11,4 @@ abbrev pub Inv-loop-a : given.InvT-loop-a
 Inv-loop-a l =
     (length (l .within) ≡ 64)
     × ((R : List Rule) → Direct R (l .links) → Sound R (l .entry .within) → Ordered (l .entry .within)
-      → Sound R (l .within) × Ordered (l .within) × ((A B : ℕ) → A < l .a → subclass A B ∈ R → At (l .within) A B))
+    → Sound R (l .within) × Ordered (l .within) × ((A B : ℕ) → A < l .a → subclass A B ∈ R → At (l .within) A B))

@@ -17,8 +17,10 @@ loop-i-again c =
     let ahead = c .args .links .now .ahead in
     let t = c .loop-i .leads in
     let i = c .loop-i .i in
-    let n = c .loop-i .inv .0 in
-    ( length-set t i _ ∙ n
-    , λ k h. elim (cases-eq k i)
-      [ inl e ↦ subst (λ (x : ℕ). Led w ahead x (set-at (set t i (c .led .result)) x)) (sym e) (subst (λ (s : ClassSet). Led w ahead i s) (sym (getD-set-same t i _ none (omega arith))) (c .led .ensures))
-      | inr ne ↦ subst (λ (s : ClassSet). Led w ahead k s) (sym (getD-set-other t i k _ none ne)) (c .loop-i .inv .1 k (omega arith)) ] )
+    let n = c .loop-i .inv .0 in (
+      length-set t i _ ∙ n,
+      λ k h. elim (cases-eq k i) [
+        | inl e ↦ subst (λ (x : ℕ). Led w ahead x (set-at (set t i (c .led .result)) x)) (sym e) (subst (λ (s : ClassSet). Led w ahead i s) (sym (getD-set-same t i _ none (omega arith))) (c .led .ensures))
+        | inr ne ↦ subst (λ (s : ClassSet). Led w ahead k s) (sym (getD-set-other t i k _ none ne)) (c .loop-i .inv .1 k (omega arith))
+      ],
+    )

@@ -16,13 +16,15 @@ loop-a-again c =
     let a = c .loop-a .a in
     let w = c .loop-a .within in
     let n : length w ≡ 64 = c .loop-a .inv .0 in
-    let put = at-put w a a (c .insert .last .self) (omega arith) (omega arith) (c .insert .ensures) in
-    ( length-set w a _ ∙ n
-    , λ A B.
-      ( (λ h. elim (put A B .0 h)
-          [ inl x ↦ let p = c .loop-a .inv .1 A B .0 x in (p .0, omega arith) | inr x ↦ (x .0 ∙ sym (x .1), (let z = x .0 in omega arith)) ])
-      , (λ p. put A B .1 (elim (cases-eq A a)
-          [ inl e ↦ inr (e, sym (p .0) ∙ e) | inr ne ↦ inl (c .loop-a .inv .1 A B .1 (p .0, (let z = p .1 in omega arith))) ])) ) )
+    let put = at-put w a a (c .insert .last .self) (omega arith) (omega arith) (c .insert .ensures) in (
+      length-set w a _ ∙ n,
+      λ A B. (
+        (λ h. elim (put A B .0 h)
+            [ inl x ↦ let p = c .loop-a .inv .1 A B .0 x in (p .0, omega arith) | inr x ↦ (x .0 ∙ sym (x .1), (let z = x .0 in omega arith)) ]),
+        (λ p. put A B .1 (elim (cases-eq A a)
+            [ inl e ↦ inr (e, sym (p .0) ∙ e) | inr ne ↦ inl (c .loop-a .inv .1 A B .1 (p .0, (let z = p .1 in omega arith))) ])),
+      ),
+    )
 
 pub returns : need.returns
 returns c A B =

@@ -5,8 +5,9 @@ use Rattle.terms.proofs.example.example.Needs as need
 
 pub returns : need.returns
 returns c =
-    record
-      { rows = refl
-      ; implied =
+    record {
+      rows = refl;
+      implied =
           pulled (widened itself (by-value (List·Memᴰ·head refl)) (by-rule (List·Memᴰ·tail (List·Memᴰ·head refl))))
-            (List·Memᴰ·tail (List·Memᴰ·tail (List·Memᴰ·head refl))) }
+          (List·Memᴰ·tail (List·Memᴰ·tail (List·Memᴰ·head refl)));
+    }

@@ -17,13 +17,13 @@ returns-in-Break-check c =
     let p = err-from-errBy (c .from-residual .result) (c .from-residual .ensures .1) in
     let e = c .in-Break-check .field-0 .0 in
     let a = row-refused (listed (c .args .self .now)) (c .args .row) (number e) (c .in-Break-check .ensures tt) in
-    rw (p .1, p .2) (record { answer = a; after = refl; law = rule-law (listed (c .args .self .now)) (c .args .row) (Err e) a })
+    rw (p .1, p .2) (record { answer = a; after = refl; unchanged = refl; law = rule-law (listed (c .args .self .now)) (c .args .row) (Err e) a })
 
 pub returns-then-at-ge256 : need.returns-then-at-ge256
 returns-then-at-ge256 c =
     let l = listed-length (c .args .self .now .rows) (c .args .self .now .used) (c .args .self .now .long) (c .args .self .now .room) in
     let a = no-row-free (listed (c .args .self .now)) (c .args .row) (c .in-Continue-check .ensures tt) (omega arith) in
-    record { answer = a; after = refl; law = rule-law (listed (c .args .self .now)) (c .args .row) (Err DraftFull) a }
+    record { answer = a; after = refl; unchanged = refl; law = rule-law (listed (c .args .self .now)) (c .args .row) (Err DraftFull) a }
 
 pub ghost-self : need.ghost-self
 ghost-self c =
@@ -36,8 +36,10 @@ returns c =
     let l = listed-length (c .args .self .now .rows) (c .args .self .now .used) n (c .args .self .now .room) in
     let a = row-free (listed (c .args .self .now)) (c .args .row) (c .in-Continue-check .ensures tt) (omega arith) in
     let b : Ok (c .args .self .now .used) ≡ asked (rule-questions (listed (c .args .self .now)) (c .args .row)) (length (listed (c .args .self .now))) =
-        ap (λ (n : ℕ). let z : Result ℕ ℕ = Ok n in z) (sym l) ∙ a in
-    record
-      { answer = b
-      ; after = take-more-set (c .args .self .now .rows) (c .args .self .now .used) (c .args .row) (omega arith)
-      ; law = rule-law (listed (c .args .self .now)) (c .args .row) (Ok (c .args .self .now .used)) b }
+    ap (λ (n : ℕ). let z : Result ℕ ℕ = Ok n in z) (sym l) ∙ a in
+    record {
+      answer = b;
+      after = take-more-set (c .args .self .now .rows) (c .args .self .now .used) (c .args .row) (omega arith);
+      unchanged = tt;
+      law = rule-law (listed (c .args .self .now)) (c .args .row) (Ok (c .args .self .now .used)) b;
+    }

@@ -33,8 +33,8 @@ returns-in-3 c R d =
     let p = lawful-classes (c .args .row) (c .pre) in
     let f = lawful-feature (c .args .row) 3 (c .pre) (c .in-3 .is) (inl refl) in
     push-as R _ _ (c .args .self .now) _ (rule-3 (c .args .row) (c .in-3 .is))
-      (adds-val (c .args .self .now) (c .args .row .left) (c .args .row .right) (c .insert-in-3 .last .self) (p .0) (p .1)
-        _ (c .insert-in-3-2 .last .self) f (omega arith) (omega arith) (c .insert-in-3 .ensures) (c .insert-in-3-2 .ensures)) d
+    (adds-val (c .args .self .now) (c .args .row .left) (c .args .row .right) (c .insert-in-3 .last .self) (p .0) (p .1)
+    _ (c .insert-in-3-2 .last .self) f (omega arith) (omega arith) (c .insert-in-3 .ensures) (c .insert-in-3-2 .ensures)) d
 
 pub returns-in-4 : need.returns-in-4
 returns-in-4 c R d =

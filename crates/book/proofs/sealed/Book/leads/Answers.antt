@@ -16,19 +16,21 @@ returns-then-class-ge64 c =
     let b = c .args .self .now in
     let past : (64 ≤ c .args .class) ⊎ (16 ≤ c .args .feature) = elim (c .then-class-ge64 .either) [ inl h ↦ inl h | inr h ↦ inr (h .1) ] in
     let t : (ltb (c .args .class) 64 && ltb (c .args .feature) 16) ≡ false =
-        elim past [ inl h ↦ and-left _ _ (le-ltb _ 64 h) | inr h ↦ and-right _ _ (le-ltb _ 16 h) ] in
-    record
-      { value = sym (ap (λ (t : Bool). cond t (set-at (b .leads) (64 * c .args .feature + c .args .class)) none) t)
-      ; exact = λ B. leads-none (rules-of (rows-of b)) (b .within) (b .leads) (b .steps) (c .args .class) (c .args .feature) B past
-      ; holds = λ B. none-holds B }
+    elim past [ inl h ↦ and-left _ _ (le-ltb _ 64 h) | inr h ↦ and-right _ _ (le-ltb _ 16 h) ] in
+    record {
+      value = sym (ap (λ (t : Bool). cond t (set-at (b .leads) (64 * c .args .feature + c .args .class)) none) t);
+      exact = λ B. leads-none (rules-of (rows-of b)) (b .within) (b .leads) (b .steps) (c .args .class) (c .args .feature) B past;
+      holds = λ B. none-holds B;
+    }
 
 pub returns : need.returns
 returns c =
     let b = c .args .self .now in
     let low = c .if-class-ge64 .left in
     let t : (ltb (c .args .class) 64 && ltb (c .args .feature) 16) ≡ true =
-        and-from _ _ (lt-ltb _ 64 low) (lt-ltb _ 16 (c .if-feature-ge16 .left)) in
-    record
-      { value = sym (ap (λ (t : Bool). cond t (set-at (b .leads) (64 * c .args .feature + c .args .class)) none) t)
-      ; exact = λ B. leads-answer (rules-of (rows-of b)) (b .within) (b .leads) (b .steps) (c .args .class) (c .args .feature) B low (c .if-feature-ge16 .left)
-      ; holds = λ B. leads-holds (rules-of (rows-of b)) (b .within) (b .leads) (b .steps) (c .args .class) (c .args .feature) B low (c .if-feature-ge16 .left) }
+    and-from _ _ (lt-ltb _ 64 low) (lt-ltb _ 16 (c .if-feature-ge16 .left)) in
+    record {
+      value = sym (ap (λ (t : Bool). cond t (set-at (b .leads) (64 * c .args .feature + c .args .class)) none) t);
+      exact = λ B. leads-answer (rules-of (rows-of b)) (b .within) (b .leads) (b .steps) (c .args .class) (c .args .feature) B low (c .if-feature-ge16 .left);
+      holds = λ B. leads-holds (rules-of (rows-of b)) (b .within) (b .leads) (b .steps) (c .args .class) (c .args .feature) B low (c .if-feature-ge16 .left);
+    }

@@ -18,8 +18,13 @@ ghost-result c =
     let d : Direct R (c .of-links .result) = subst (λ (k : ℕ). Direct (rules-of (take k rows)) (c .of-links .result)) z (c .of-links .ensures) in
     let lo = rules-low (take n rows) (c .pre .lawful) in
     let ready = c .climb .ensures R d lo (alone-sound start (c .reflexive-within .ensures) R) (alone-ordered start (c .reflexive-within .ensures)) in
-    let served = c .settle .ensures R d lo ready in
-    ( omega arith
-    , (c .pre .room
-    , (c .pre .lawful
-    , (∣ exact R lo (c .settle .last .within) served (c .of-links .result) (c .leads-table-leads .result) d (c .leads-table-leads .ensures) ∣₁, tt))) )
+    let served = c .settle .ensures R d lo ready in (
+      omega arith,
+      (
+        c .pre .room,
+        (
+          c .pre .lawful,
+          (∣ exact R lo (c .settle .last .within) served (c .of-links .result) (c .leads-table-leads .result) d (c .leads-table-leads .ensures) ∣₁, tt),
+        ),
+      ),
+    )

@@ -1,0 +1,5 @@
+pub mod Groups
+pub mod Turns
+pub mod Whole
+pub mod Encoding
+pub mod Law
