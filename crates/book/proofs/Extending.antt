@@ -5,13 +5,14 @@ use mathlib.Core.Logic.{_⊎_, inl, inr, _≢_}
 use mathlib.Core.Bool.{Bool, true, false, cond, _&&_, _||_}
 use mathlib.Core.List.{List, [], _∷_}
 use native.Mathlib.Omega.{arith}
+use lib.Bits.{or-zero-r}
 use lib.Dec.{eqb, ltb}
 use lib.ListN.{length, getD, set}
 use Rattle.std.proofs.shelf.Lists.{getD-set-same, getD-set-other, getD-past}
 use Rattle.std.proofs.shelf.Tests.{and-from, eq-eqb, lt-ltb, or-parts, cases-eq, cases-bool, cases-lt, false≢true}
 use Rattle.classes.specs.declared.ClassSet.{ClassSet}
 use Rattle.classes.specs.Sets.{has, none, joined, weight}
-use Rattle.classes.proofs.Members.{has-none, joined-more, same-weight}
+use Rattle.classes.proofs.Members.{has-none, empty-none, joined-more, same-weight}
 use Rattle.book.specs.Tables.{set-at, At}
 use Rattle.book.specs.Sealing.{widened, missing, Heavier, Extending, Extended}
 
@@ -34,6 +35,17 @@ extend-none w a more = record { each = λ X h. absurd (omega arith); later = λ 
 
 pub heavier-none : (w : List ClassSet) → Heavier w none w
 heavier-none w = record { least = omega arith; unless = inl refl }
+
+-- nothing to gain
+pub extend-by-none : (w : List ClassSet) (a : ℕ) (more : ClassSet) → weight more ≡ 0 → Extended w a more w none
+extend-by-none w a more e = record {
+  each = λ X. sym (ap (widened (set-at w X) a) (empty-none more e) ∙ still (set-at w X) (has (set-at w X) a));
+  kept = λ X _. refl;
+}
+  where
+    still : (s : ClassSet) (b : Bool) → cond b (joined s none) s ≡ s
+    still s true = same-weight (joined s none) s (or-zero-r (weight s))
+    still s false = refl
 
 module _ (w : List ClassSet) (a : ℕ) (more : ClassSet) (n : ℕ) (v : List ClassSet) (g : ClassSet) (e : Extending w a more n v g) where
   new : widened (set-at v n) a more ≡ widened (set-at w n) a more

@@ -35,6 +35,9 @@ fn extend(within: &mut [ClassSet; 64], a: u8, more: ClassSet) -> ClassSet
     ensures heavier { λ r. ⌜ Heavier (now (within .entry)) r (now (within .exit)) ⌝ }
 {
     let mut grown = ClassSet::NONE;
+    if more.is_empty() {
+        return grown;
+    }
     for x in 0..64u8 {
         let old = within[x as usize];
         let new = widen(old, a, more);

@@ -5,15 +5,20 @@ use mathlib.Core.Bool.{true}
 use mathlib.Core.List.{List}
 use native.Mathlib.Omega.{arith}
 use lib.ListN.{set}
-use Rattle.std.proofs.shelf.Tests.{not-true, not-false, both-ways}
+use Rattle.std.proofs.shelf.Tests.{not-true, not-false, both-ways, eqb-true}
 use Rattle.classes.specs.declared.ClassSet.{ClassSet}
 use Rattle.classes.specs.Sets.{weight}
 use Rattle.classes.proofs.Members.{same-weight}
 use Rattle.book.specs.Tables.{set-at}
 use Rattle.book.specs.Sealing.{Extending, Heavier}
-use Rattle.book.proofs.Extending.{extend-none, heavier-none, extend-same, extend-grown, extend-heavier, extend-all}
+use Rattle.book.proofs.Extending.{extend-none, heavier-none, extend-by-none, extend-same, extend-grown, extend-heavier, extend-all}
 use Rattle.book.proofs.closing.extend.Needs as need
 use Rattle.book.proofs.closing.extend.Needs.{then-ne, else-ne}
+
+pub returns-then-is-empty : need.returns-then-is-empty
+returns-then-is-empty c =
+    let e = eqb-true (weight (c .args .more)) 0 (sym (c .if-is-empty .ensures tt)) in
+    record { extended = extend-by-none (c .args .within .now) (c .args .a) (c .args .more) e; heavier = heavier-none (c .args .within .now) }
 
 pub loop-x-holds : need.loop-x-holds
 loop-x-holds c = (omega arith, extend-none (c .args .within .now) (c .args .a) (c .args .more), heavier-none (c .args .within .now))
