@@ -1,19 +1,19 @@
 -- Widening the sets of a table one after another.
-use Prim.Native.Nat.{ℕ, zero, suc, _+_, _-_, _^_, _<_, _≤_}
+use Prim.Native.Nat.{ℕ, zero, suc, _+_, _^_, _<_, _≤_}
 use mathlib.Core.Path.{_≡_, refl, sym, _∙_, ap, subst}
-use mathlib.Core.Logic.{_⊎_, inl, inr, _≢_}
+use mathlib.Core.Logic.{inl, inr, _≢_}
 use mathlib.Core.Bool.{Bool, true, false, cond, _&&_, _||_}
 use mathlib.Core.List.{List, [], _∷_}
 use native.Mathlib.Omega.{arith}
 use lib.Bits.{or-zero-r}
 use lib.Dec.{eqb, ltb}
-use lib.ListN.{length, getD, set}
+use lib.ListN.{length, set}
 use Rattle.std.proofs.shelf.Lists.{getD-set-same, getD-set-other, getD-past}
-use Rattle.std.proofs.shelf.Tests.{and-from, eq-eqb, lt-ltb, or-parts, cases-eq, cases-bool, cases-lt, false≢true}
+use Rattle.std.proofs.shelf.Tests.{and-from, eq-eqb, lt-ltb, or-parts, cases-eq, cases-lt, false≢true}
 use Rattle.classes.specs.declared.ClassSet.{ClassSet}
 use Rattle.classes.specs.Sets.{has, none, joined, weight}
 use Rattle.classes.proofs.Members.{has-none, empty-none, joined-more, same-weight}
-use Rattle.book.specs.Tables.{set-at, At}
+use Rattle.book.specs.Tables.{set-at}
 use Rattle.book.specs.Sealing.{widened, missing, Heavier, Extending, Extended}
 
 missing-set : (w : List ClassSet) (a : ℕ) (s : ClassSet) → a < length w → weight s ≤ 2 ^ 64 → weight (set-at w a) ≤ weight s

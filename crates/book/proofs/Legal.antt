@@ -2,14 +2,14 @@
 use Prim.Native.Nat.{ℕ, zero, suc, _<_, _≤_}
 use mathlib.Core.Path.{_≡_, refl, sym, _∙_, ap, subst}
 use mathlib.Core.Logic.{_⊎_, inl, inr}
-use mathlib.Core.Bool.{Bool, true, false, _&&_, _||_, not, cond}
-use mathlib.Core.List.{List, [], _∷_, map, List·Memᴰ·cases-cons, List·Memᴰ·not-nil, Memᴰ·of-map}
+use mathlib.Core.Bool.{Bool, true, false, _&&_, cond}
+use mathlib.Core.List.{List, [], _∷_, List·Memᴰ·cases-cons, List·Memᴰ·not-nil, Memᴰ·of-map}
 use native.Mathlib.Omega.{arith}
 use lib.Dec.{eqb, ltb, leb}
 use lib.ListN.{length, getD, take}
-use Rattle.std.proofs.shelf.Tests.{and-parts, ltb-true, eqb-true, or-cases, not-true, ltb-false, cases-eq, cases-bool}
+use Rattle.std.proofs.shelf.Tests.{and-parts, ltb-true, eqb-true, or-cases, not-true, ltb-false, cases-bool}
 use Rattle.terms.specs.declared.row.Row.{Row}
-use Rattle.terms.specs.Rows.{lawful, all-lawful, kind-known, classes-low, features-low, count-fits, fields-right, low-at, feature-at}
+use Rattle.terms.specs.Rows.{lawful, all-lawful, kind-known, classes-low, features-low, count-fits, low-at, feature-at}
 use Rattle.terms.specs.Worlds.{_∈_, Rule, subclass, disjoint, value, pullback, key, rule-of, rules-of}
 use Rattle.terms.proofs.Each.{each-at}
 use Rattle.book.specs.Sealing.{Low}

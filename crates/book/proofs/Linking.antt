@@ -1,14 +1,14 @@
 -- Links: one row more.
-use Prim.Native.Nat.{ℕ, zero, suc, _+_, _*_, _<_, _≤_}
+use Prim.Native.Nat.{ℕ, zero, suc, _+_, _*_, _<_}
 use mathlib.Core.Path.{_≡_, refl, sym, _∙_, ap, subst}
-use mathlib.Core.Logic.{_⊎_, inl, inr, _↔_, _≢_}
-use mathlib.Core.Bool.{Bool, true, false, _&&_, _||_}
-use mathlib.Core.List.{List, [], _∷_, _++_, List·Memᴰ·head, List·Memᴰ·append-cases, List·Memᴰ·eq-of-singleton, List·Memᴰ·not-nil, Memᴰ·append-left, Memᴰ·append-right}
+use mathlib.Core.Logic.{_⊎_, inl, inr, _↔_}
+use mathlib.Core.Bool.{true, false, _&&_, _||_}
+use mathlib.Core.List.{List, [], _∷_, _++_, List·Memᴰ·head, List·Memᴰ·append-cases, List·Memᴰ·eq-of-singleton, Memᴰ·append-left, Memᴰ·append-right}
 use native.Mathlib.Omega.{arith}
 use lib.Dec.{eqb, ltb}
 use lib.ListN.{length, getD, set, replicate}
-use Rattle.std.proofs.shelf.Lists.{getD-set-same, getD-set-other, getD-past}
-use Rattle.std.proofs.shelf.Tests.{and-parts, and-from, ltb-true, lt-ltb, eqb-true, eq-eqb, or-cases, or-left, or-right, cases-eq, false≢true}
+use Rattle.std.proofs.shelf.Lists.{getD-set-same, getD-set-other}
+use Rattle.std.proofs.shelf.Tests.{and-parts, and-from, lt-ltb, eqb-true, eq-eqb, or-cases, or-left, or-right, cases-eq, false≢true}
 use Rattle.classes.specs.declared.ClassSet.{ClassSet}
 use Rattle.classes.specs.Sets.{has, none}
 use Rattle.classes.proofs.Members.{has-none}

@@ -1,10 +1,10 @@
 -- One class more that a class lies within: the table stays sound and ordered.
-use Prim.Native.Nat.{ℕ, _+_, _^_, _<_}
+use Prim.Native.Nat.{ℕ, _^_, _<_}
 use mathlib.Core.Path.{_≡_, refl, sym, _∙_, ap, subst}
 use mathlib.Core.Logic.{_⊎_, inl, inr}
-use mathlib.Core.Bool.{Bool, true, false, cond, _||_}
+use mathlib.Core.Bool.{Bool, true, false, cond}
 use mathlib.Core.List.{List}
-use Rattle.std.proofs.shelf.Tests.{or-cases, or-left, or-right, cases-bool}
+use Rattle.std.proofs.shelf.Tests.{or-cases, or-left, or-right}
 use Rattle.classes.specs.declared.ClassSet.{ClassSet}
 use Rattle.classes.specs.Sets.{has, joined, weight}
 use Rattle.classes.proofs.Members.{has-joined, has-low}

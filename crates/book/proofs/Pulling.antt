@@ -1,16 +1,16 @@
 -- What rows of kind 4 pull back to a class along one feature.
 use Prim.Native.Nat.{ℕ, _+_, _*_, _<_}
-use mathlib.Core.Path.{_≡_, refl, sym, _∙_, ap, subst}
-use mathlib.Core.Logic.{_⊎_, inl, inr}
-use mathlib.Core.Bool.{Bool, true, false}
+use mathlib.Core.Path.{_≡_, subst}
+use mathlib.Core.Logic.{inl, inr}
+use mathlib.Core.Bool.{true, false}
 use mathlib.Core.List.{List}
 use Rattle.std.proofs.shelf.Tests.{cases-bool, both-ways}
 use Rattle.classes.specs.declared.ClassSet.{ClassSet}
-use Rattle.classes.specs.Sets.{has, weight, none}
-use Rattle.terms.specs.Worlds.{_∈_, Rule, value, pullback}
+use Rattle.classes.specs.Sets.{has}
+use Rattle.terms.specs.Worlds.{_∈_, Rule, value}
 use Rattle.terms.specs.Steps.{Within, itself, pulled, by-value, widened}
 use Rattle.book.specs.Tables.{set-at, At}
-use Rattle.book.specs.Sealing.{Direct, Low, Gathered, Placed, Ordered, Sound, Served, Step, Heavier}
+use Rattle.book.specs.Sealing.{Direct, Low, Gathered, Placed, Ordered, Sound, Served, Step}
 use Rattle.book.specs.declared.links.Links.{Links}
 use Rattle.book.proofs.Gathering.{gathered-from, gathered-all}
 

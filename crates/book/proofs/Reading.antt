@@ -1,7 +1,7 @@
 -- What reading a table of exact class steps answers.
 use Prim.Native.Nat.{ℕ, _+_, _*_, _<_, _≤_}
 use mathlib.Core.Path.{_≡_, sym, _∙_}
-use mathlib.Core.Bool.{Bool, true, false, Bool-set}
+use mathlib.Core.Bool.{true, false, Bool-set}
 use mathlib.Core.Logic.{_⊎_, inl, inr, _↔_, ∥∥₁-elim, ∥∥₁-map}
 use mathlib.Core.List.{List}
 use native.Mathlib.Omega.{arith}
@@ -9,7 +9,7 @@ use Rattle.std.proofs.shelf.Tests.{false≢true}
 use Rattle.classes.specs.declared.ClassSet.{ClassSet}
 use Rattle.classes.specs.Sets.{has, none}
 use Rattle.classes.proofs.Members.{has-none}
-use Rattle.terms.specs.Worlds.{Rule, World, Obj, In, KeepsButExclusions}
+use Rattle.terms.specs.Worlds.{Rule}
 use Rattle.terms.specs.Steps.{Within, Leads, AlwaysWithin, AlwaysLeads}
 use Rattle.terms.proofs.True.{within-true, leads-true}
 use Rattle.book.specs.Tables.{At, Steps}

@@ -1,19 +1,18 @@
 -- Steps one after another, and the loop that takes classes from the waiting ones.
-use Prim.Native.Nat.{ℕ, _+_, _*_, _^_, _<_, _≤_}
-use mathlib.Core.Path.{_≡_, refl, sym, _∙_, ap, subst}
-use mathlib.Core.Logic.{_⊎_, inl, inr, _↔_}
-use mathlib.Core.Bool.{Bool, true, false, not, _||_, _&&_}
+use Prim.Native.Nat.{ℕ, _+_, _*_, _^_, _<_}
+use mathlib.Core.Path.{_≡_, sym, _∙_, ap, subst}
+use mathlib.Core.Logic.{inl, inr}
+use mathlib.Core.Bool.{true, false, not, _||_, _&&_}
 use mathlib.Core.List.{List}
 use native.Mathlib.Omega.{arith}
 use lib.Bits.{or-zero-r}
 use lib.Dec.{eqb, ltb}
-use Rattle.std.proofs.shelf.Tests.{or-parts, and-cases, not-false, eqb-true, ne-eqb, cases-eq, both-ways, and-from, eq-eqb, lt-ltb, or-left, or-right, cases-bool}
+use Rattle.std.proofs.shelf.Tests.{or-parts, and-cases, not-false, eqb-true, cases-eq, both-ways, and-from, eq-eqb, lt-ltb, or-left, or-right, cases-bool}
 use Rattle.classes.specs.declared.ClassSet.{ClassSet}
 use Rattle.classes.specs.Sets.{has, none, joined, weight, Took}
 use Rattle.classes.proofs.Members.{has-joined, has-none, empty-none, extensional}
-use Rattle.terms.specs.Worlds.{_∈_, Rule}
-use Rattle.book.specs.Tables.{At}
-use Rattle.book.specs.Sealing.{Gathered, Ordered, Sound, Served, Step, Heavier, Open, Ready, missing}
+use Rattle.terms.specs.Worlds.{Rule}
+use Rattle.book.specs.Sealing.{Gathered, Ordered, Served, Step, Heavier, Open, Ready, missing}
 use Rattle.book.proofs.Gathering.{gathered-from}
 
 pub step-none : (R : List Rule) (w : List ClassSet) → Step R w none w

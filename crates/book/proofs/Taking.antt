@@ -1,7 +1,7 @@
 -- What rule answers, and its law.
 use Prim.Native.Nat.{ℕ, _+_, _<_, _≤_}
 use mathlib.Core.Path.{_≡_, refl, sym, _∙_, ap}
-use mathlib.Core.Bool.{Bool, true, false, cond, _&&_}
+use mathlib.Core.Bool.{Bool, true, cond}
 use mathlib.Core.List.{List, [], _∷_, _++_}
 use native.Mathlib.Omega.{arith}
 use lib.Dec.{ltb}
@@ -12,8 +12,8 @@ use Rattle.std.proofs.shelf.Lists.{length-take-le, take-more-set}
 use Rattle.std.proofs.shelf.Tests.{and-from, and-parts, lt-ltb, le-ltb, ltb-true}
 use Rattle.terms.specs.declared.row.Row.{Row}
 use Rattle.terms.specs.declared.refusal.Refusal.{Refusal}
-use Rattle.terms.specs.Refusals.{Question, ask, asked, AllYes, number, numbered}
-use Rattle.terms.specs.Rows.{row-questions, lawful, all-lawful, kind-known, classes-low, features-low, fields-right}
+use Rattle.terms.specs.Refusals.{ask, asked, AllYes, numbered}
+use Rattle.terms.specs.Rows.{row-questions, lawful, all-lawful, kind-known, classes-low, features-low}
 use Rattle.terms.proofs.Asking.{answers, asked-on, asked-no}
 use Rattle.book.specs.Drafts.{rule-questions, RuleLaw}
 

@@ -1,17 +1,16 @@
 -- A table that is sound, ordered, and has all that the rules pull back holds exactly the class steps.
-use Prim.Native.Nat.{ℕ, _+_, _*_, _-_, _%_, _<_, _≤_}
-use mathlib.Core.Path.{_≡_, refl, sym, _∙_, ap, subst}
+use Prim.Native.Nat.{ℕ, _+_, _*_, _-_, _%_, _<_}
+use mathlib.Core.Path.{_≡_, refl, sym, _∙_, subst}
 use mathlib.Core.Logic.{_⊎_, inl, inr, _↔_}
-use mathlib.Core.Bool.{Bool, true, false}
 use mathlib.Core.List.{List}
 use native.Mathlib.Omega.{arith}
 use Rattle.classes.specs.declared.ClassSet.{ClassSet}
-use Rattle.classes.specs.Sets.{has, none}
+use Rattle.classes.specs.Sets.{none}
 use Rattle.classes.proofs.Members.{has-none}
-use Rattle.terms.specs.Worlds.{_∈_, Rule, subclass, value, pullback}
+use Rattle.terms.specs.Worlds.{_∈_, Rule, value}
 use Rattle.terms.specs.Steps.{Within, Leads, itself, by-rule, chained, pulled, by-value, widened}
 use Rattle.book.specs.Tables.{set-at, At, Steps}
-use Rattle.book.specs.Sealing.{Direct, Low, Ordered, Sound, Served, Ready, Open, Led}
+use Rattle.book.specs.Sealing.{Direct, Low, Ordered, Sound, Open, Led}
 use Rattle.book.specs.declared.links.Links.{Links}
 
 -- each class within itself alone

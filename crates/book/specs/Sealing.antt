@@ -1,13 +1,13 @@
 -- What the inner functions of sealing promise each other; no public call cites this file.
-use Prim.Native.Nat.{ℕ, zero, suc, _+_, _*_, _-_, _%_, _^_, _<_, _≤_}
+use Prim.Native.Nat.{ℕ, _+_, _*_, _-_, _%_, _^_, _<_, _≤_}
 use mathlib.Core.Path.{_≡_}
-use mathlib.Core.Bool.{Bool, true, false, cond}
+use mathlib.Core.Bool.{true, false, cond}
 use mathlib.Core.Logic.{_↔_, _⊎_}
 use mathlib.Core.List.{List, [], _∷_}
 use Rattle.classes.specs.declared.ClassSet.{ClassSet}
-use Rattle.classes.specs.Sets.{has, none, joined, weight}
+use Rattle.classes.specs.Sets.{has, joined, weight}
 use Rattle.terms.specs.Worlds.{_∈_, Rule, subclass, value, pullback}
-use Rattle.terms.specs.Steps.{Within, Leads}
+use Rattle.terms.specs.Steps.{Within}
 use Rattle.book.specs.Tables.{set-at, At}
 use Rattle.book.specs.declared.links.Links.{Links}
 

@@ -1,11 +1,8 @@
 // Closing the table of classes that each class lies within.
-ghost use Prim.Native.Nat.{ℕ, _+_, _*_, _<_, _≤_};
+ghost use Prim.Native.Nat.{_+_, _<_, _≤_};
 ghost use mathlib.Core.Path.{_≡_};
-ghost use mathlib.Core.Bool.{true, false};
-ghost use mathlib.Core.List.{List};
 ghost use lib.ListN.{length};
-ghost use Rattle.classes.specs.Sets.{has, none};
-ghost use Rattle.terms.specs.Worlds.{Rule};
+ghost use Rattle.classes.specs.Sets.{has};
 ghost use Rattle.book.specs.Sealing.{Gathered, widened, Heavier, Extended, Placed};
 use classes::ClassSet;
 use classes::ClassSetPartialEq;

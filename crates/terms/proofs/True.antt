@@ -2,7 +2,7 @@
 use Prim.Native.Nat.{ℕ}
 use mathlib.Core.Path.{refl}
 use mathlib.Core.List.{List}
-use Rattle.terms.specs.Worlds.{Rule, Obj, World, In, KeepsButExclusions}
+use Rattle.terms.specs.Worlds.{Rule}
 use Rattle.terms.specs.Steps.{Within, Leads, itself, by-rule, chained, pulled, by-value, widened, AlwaysWithin, AlwaysLeads}
 
 mutual

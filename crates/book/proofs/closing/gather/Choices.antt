@@ -1,9 +1,4 @@
-use Prim.Native.Nat.{ℕ, _+_, _<_}
-use mathlib.Core.Path.{_≡_}
-use mathlib.Core.Bool.{true}
-use mathlib.Core.Logic.{_⊎_}
-use Rattle.classes.specs.Sets.{has, weight}
-use Rattle.book.specs.Tables.{At}
+use Rattle.classes.specs.Sets.{weight}
 use Rattle.book.specs.Sealing.{Gathering}
 use Rattle.book.proofs.closing.gather.Given as given
 

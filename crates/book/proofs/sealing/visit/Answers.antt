@@ -1,10 +1,8 @@
 use mathlib.Core.Path.{_≡_, sym, _∙_, ap, subst}
-use mathlib.Core.Bool.{false}
 use Rattle.classes.specs.declared.ClassSet.{ClassSet}
 use Rattle.classes.specs.Sets.{has, joined}
 use Rattle.book.specs.Sealing.{Step, Heavier}
-use Rattle.book.proofs.Extending.{heavier-none}
-use Rattle.book.proofs.Stepping.{step-none, step-then, heavier-then, served-more}
+use Rattle.book.proofs.Stepping.{step-then, heavier-then, served-more}
 use Rattle.book.proofs.sealing.visit.Needs as need
 
 pub loop-feature-again : need.loop-feature-again

@@ -1,7 +1,7 @@
 -- The answer of `has` below 64, and past it.
 use Prim.Native.Nat.{_/_, _^_}
 use native.Mathlib.Omega.{arith}
-use mathlib.Core.Path.{_≡_, ap, _∙_, sym}
+use mathlib.Core.Path.{ap, _∙_, sym}
 use lib.Bits.{and-mask}
 use lib.Dec.{eqb}
 use Rattle.std.proofs.shelf.Tests.{le-ltb}

@@ -1,7 +1,7 @@
 -- What a set has once a class below 64 joined it.
 use Prim.Native.Nat.{_^_}
 use native.Mathlib.Omega.{arith}
-use mathlib.Core.Path.{_≡_, ap, _∙_}
+use mathlib.Core.Path.{ap, _∙_}
 use mathlib.Core.Bool.{_||_}
 use lib.Bits.{bitOr}
 use Rattle.std.proofs.shelf.Bits.{one-shl}

@@ -1,6 +1,5 @@
-use mathlib.Core.Path.{_≡_, sym, ap, subst}
+use mathlib.Core.Path.{sym, subst}
 use mathlib.Core.List.{List, []}
-use lib.ListN.{take}
 use Rattle.std.proofs.shelf.Lists.{map-more, take-all}
 use Rattle.terms.specs.declared.row.Row.{Row}
 use Rattle.terms.specs.Worlds.{Rule, rule-of, rules-of}

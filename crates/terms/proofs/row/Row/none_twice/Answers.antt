@@ -1,4 +1,4 @@
-use mathlib.Core.Path.{sym, _∙_}
+use mathlib.Core.Path.{sym}
 use native.Mathlib.Omega.{arith}
 use Rattle.terms.specs.Rows.{new-at}
 use Rattle.terms.proofs.Each.{each-none, each-more, each-not, each-all}
