@@ -10,7 +10,8 @@ use Rattle.classes.specs.Sets.{has}
 use Rattle.terms.specs.Worlds.{_∈_, Rule, value}
 use Rattle.terms.specs.Steps.{Within, itself, pulled, by-value, widened}
 use Rattle.book.specs.Tables.{set-at, At}
-use Rattle.book.specs.Sealing.{Direct, Low, Gathered, Placed, Ordered, Sound, Served, Step}
+use Rattle.theory.specs.Legal.{RulesLegal}
+use Rattle.book.specs.Sealing.{Direct, Gathered, Placed, Ordered, Sound, Served, Step}
 use Rattle.book.specs.declared.links.Links.{Links}
 use Rattle.book.proofs.Gathering.{gathered-from, gathered-all}
 
@@ -38,8 +39,8 @@ module _ (links : Links) (w v : List ClassSet) (a f : ℕ) (low : a < 64) (less 
     keeps = λ A g h s D B C m e q. p .grew A C (s D B C m (subst (λ (t : ClassSet). has t B ≡ true) (still A g D h m) e) q);
   }
 
-  pub pull-served : Low R → Ordered w → has again a ≡ false → Served R v a f
+  pub pull-served : RulesLegal R → Ordered w → has again a ≡ false → Served R v a f
   pull-served lo o h D B C m e q =
       let e′ : At w D B = subst (λ (t : ClassSet). has t B ≡ true) (still a f D h m) e in
       let in-led : has led B ≡ true = gathered-all l D B (d .ahead-is a f D low less .1 m) e′ in
-      p .there o C (b .all B C in-led (d .behind-is B f C (lo .pull f B C q .1) less .1 q))
+      p .there o C (b .all B C in-led (d .behind-is B f C (lo _ q .1) less .1 q))

@@ -37,10 +37,10 @@ module _ (rows : List Row) (row : Row) where
       let a = answers (length rows) (rule-questions rows row) (numbered r) e in
       record {
         taken = (
-          (λ t. let y = a .done .0 (ap numbered t) in
+          (λ t. let y = a .accepted .0 (ap numbered t) in
               (yes-lawful row (y .0, (y .1 .0, (y .1 .1 .0, (y .1 .1 .1 .0, tt)))), ltb-true _ _ (y .1 .1 .1 .1 .0))),
           (λ l. let y = lawful-yes row (l .0) in
-              numbered-ok r (length rows) (a .done .1 (y .0, (y .1 .0, (y .1 .1 .0, (y .1 .1 .1 .0, (lt-ltb _ _ (l .1), tt))))))),
+              numbered-ok r (length rows) (a .accepted .1 (y .0, (y .1 .0, (y .1 .1 .0, (y .1 .1 .1 .0, (lt-ltb _ _ (l .1), tt))))))),
         );
         refused = a .refused;
       }
@@ -51,7 +51,7 @@ module _ (rows : List Row) (row : Row) where
 
   -- a lawful row
   pub row-lawful : _≡_ {A = Result (Unit {0}) ℕ} (Ok tt) (asked (row-questions row) tt) → lawful row ≡ true
-  row-lawful e = yes-lawful row (answers tt (row-questions row) (asked (row-questions row) tt) refl .done .0 (sym e))
+  row-lawful e = yes-lawful row (answers tt (row-questions row) (asked (row-questions row) tt) refl .accepted .0 (sym e))
 
   pub no-row-free : _≡_ {A = Result (Unit {0}) ℕ} (Ok tt) (asked (row-questions row) tt) → 256 ≤ length rows → Err 5 ≡ asked (rule-questions rows row) (length rows)
   no-row-free e h = sym (asked-on (row-questions row) (ask 5 (ltb (length rows) 256) ∷ []) tt (length rows) (sym e) ∙ ap (λ (b : Bool). cond {A = Result ℕ ℕ} b (Ok (length rows)) (Err 5)) (le-ltb _ 256 h))

@@ -9,8 +9,10 @@ use Rattle.classes.specs.Sets.{none}
 use Rattle.classes.proofs.Members.{has-none}
 use Rattle.terms.specs.Worlds.{_∈_, Rule, value}
 use Rattle.terms.specs.Steps.{Within, Leads, itself, by-rule, chained, pulled, by-value, widened}
+use Rattle.theory.proofs.Range.{within-range, leads-range}
 use Rattle.book.specs.Tables.{set-at, At, Steps}
-use Rattle.book.specs.Sealing.{Direct, Low, Ordered, Sound, Open, Led}
+use Rattle.theory.specs.Legal.{RulesLegal}
+use Rattle.book.specs.Sealing.{Direct, Ordered, Sound, Open, Led}
 use Rattle.book.specs.declared.links.Links.{Links}
 
 -- each class within itself alone
@@ -24,29 +26,9 @@ module _ (w : List ClassSet) (r : (A B : ℕ) → At w A B ↔ ((A ≡ B) × (A 
     trans = λ A B C p q. let a = r A B .0 p in r A C .1 (a .0 ∙ r B C .0 q .0, a .1);
   }
 
-module _ (R : List Rule) (lo : Low R) where
-  mutual
-    within-low : {A B : ℕ} → Within R A B → (A ≡ B) ⊎ ((A < 64) × (B < 64))
-    within-low itself = inl refl
-    within-low (by-rule m) = inr (lo .sub _ _ m)
-    within-low (chained {A} {B} {C} p q) =
-        elim (within-low p) [
-          | inl e ↦ subst (λ (x : ℕ). (x ≡ C) ⊎ ((x < 64) × (C < 64))) (sym e) (within-low q)
-          | inr x ↦ inr (x .0, elim (within-low q) [ inl e ↦ subst (λ (y : ℕ). y < 64) e (x .1) | inr y ↦ y .1 ])
-        ]
-    within-low (pulled l m) = inr (leads-low l .0, lo .pull _ _ _ m .2)
-
-    pub leads-low : {A f B : ℕ} → Leads R A f B → (A < 64) × (f < 16) × (B < 64)
-    leads-low (by-value m) = lo .val _ _ _ m
-    leads-low (widened {A} {C} {f} {D} {B} p l q) =
-        let t = leads-low l in (
-          elim (within-low p) [ inl e ↦ subst (λ (y : ℕ). y < 64) (sym e) (t .0) | inr x ↦ x .0 ],
-          t .1,
-          elim (within-low q) [ inl e ↦ subst (λ (y : ℕ). y < 64) e (t .2) | inr x ↦ x .1 ],
-        )
-
+module _ (R : List Rule) (lo : RulesLegal R) where
   low-up : {A B : ℕ} → Within R A B → A < 64 → B < 64
-  low-up p l = elim (within-low p) [ inl e ↦ subst (λ (y : ℕ). y < 64) e l | inr x ↦ x .1 ]
+  low-up p l = elim (within-range lo p) [ inl e ↦ subst (λ (y : ℕ). y < 64) e l | inr x ↦ x .1 ]
 
   module _ (w : List ClassSet) (o : Open R w none) where
     order : Ordered w
@@ -59,20 +41,20 @@ module _ (R : List Rule) (lo : Low R) where
       whole (chained p q) l = order .trans _ _ _ (whole p l) (whole q (low-up p l))
       whole (pulled {A} {f} {B} {C} p m) l =
           let t = ways p in
-          let v = lo .val _ _ _ (t .3) in
+          let v = lo _ (t .3) in
           order .trans _ _ _ (t .2) (o .served (t .0) f (v .0) (v .1) (has-none (t .0)) (t .1) B C (t .3) (t .4) m)
 
       -- a step "leads" goes over one row of kind 3
       ways : {A f B : ℕ} → Leads R A f B → (C : ℕ) × (D : ℕ) × At w A C × (value C f D ∈ R) × At w D B
-      ways (by-value m) = let t = lo .val _ _ _ m in (_, _, order .refl _ (t .0), m, order .refl _ (t .2))
+      ways (by-value m) = let t = lo _ m in (_, _, order .refl _ (t .0), m, order .refl _ (t .2))
       ways (widened p l q) =
           let t = ways l in
-          let s = leads-low (widened p l q) in (
+          let s = leads-range lo (widened p l q) in (
             t .0,
             t .1,
             order .trans _ _ _ (whole p (s .0)) (t .2),
             t .3,
-            order .trans _ _ _ (t .4) (whole q (leads-low l .2)),
+            order .trans _ _ _ (t .4) (whole q (leads-range lo l .2)),
           )
 
     pub exact : (links : Links) (leads : List ClassSet) → Direct R links → ((i : ℕ) → i < 1024 → Led w (links .ahead) i (set-at leads i)) → Steps R w leads
@@ -90,7 +72,7 @@ module _ (R : List Rule) (lo : Low R) where
             (λ p. let t = ways p in
                 let q : 64 * f + t .0 ≡ i - i % 64 + t .0 = omega arith in
                 at .all (t .0) (t .1) B (subst (λ (x : ℕ). At w x (t .0)) (sym m) (t .2))
-                (subst (λ (x : ℕ). At (links .ahead) x (t .1)) q (d .ahead-is (t .0) f (t .1) (lo .val _ _ _ (t .3) .0) b .1 (t .3))) (t .4)),
+                (subst (λ (x : ℕ). At (links .ahead) x (t .1)) q (d .ahead-is (t .0) f (t .1) (lo _ (t .3) .0) b .1 (t .3))) (t .4)),
           );
-      leads-low = λ A f B p. let t = leads-low p in (t .0, t .1);
+      leads-low = λ A f B p. let t = leads-range lo p in (t .0, t .1);
     }

@@ -18,12 +18,6 @@ pub record Direct (R : List Rule) (l : Links) : Type 0 where
   pub behind-is : (A f B : ℕ) → A < 64 → f < 16 → At (l .behind) (64 * f + A) B ↔ (pullback f A B ∈ R)
   pub into-has : (A f B : ℕ) → value A f B ∈ R → At (l .into) B A
 
--- every class and feature of the rules is one
-pub record Low (R : List Rule) : Type 0 where
-  pub sub : (A B : ℕ) → subclass A B ∈ R → (A < 64) × (B < 64)
-  pub val : (A f B : ℕ) → value A f B ∈ R → (A < 64) × (f < 16) × (B < 64)
-  pub pull : (f A B : ℕ) → pullback f A B ∈ R → (f < 16) × (A < 64) × (B < 64)
-
 -- r is the union of the sets that stand at base + k for the classes k of s
 pub record Gathered (table : List ClassSet) (base : ℕ) (s r : ClassSet) : Type 0 where
   pub from : (B : ℕ) → has r B ≡ true → (k : ℕ) × (k < 64) × (has s k ≡ true) × At table (base + k) B

@@ -7,7 +7,8 @@ ghost use mathlib.Core.List.{List};
 ghost use Rattle.classes.specs.Sets.{has, none};
 ghost use Rattle.terms.specs.Worlds.{Rule};
 ghost use Rattle.book.specs.Tables.{set-at, At};
-ghost use Rattle.book.specs.Sealing.{Direct, Low, Heavier, Ordered, Sound, Served, Step, Ready, Open, Led};
+ghost use Rattle.theory.specs.Legal.{RulesLegal};
+ghost use Rattle.book.specs.Sealing.{Direct, Heavier, Ordered, Sound, Served, Step, Ready, Open, Led};
 use crate::closing::gather;
 use crate::closing::place;
 use crate::links::Links;
@@ -26,7 +27,7 @@ pub(crate) fn reflexive() -> [ClassSet; 64]
 
 // Adds what the rows of kind 1 say.
 pub(crate) fn climb(within: &mut [ClassSet; 64], links: &Links)
-    ensures { λ _. ⌜ ((R : List Rule) → Direct R (now (links .entry)) → Low R → Sound R (now (within .entry)) → Ordered (now (within .entry)) → Ready R (now (within .exit))) ⌝ }
+    ensures { λ _. ⌜ ((R : List Rule) → Direct R (now (links .entry)) → RulesLegal R → Sound R (now (within .entry)) → Ordered (now (within .entry)) → Ready R (now (within .exit))) ⌝ }
 {
     for a in 0..64u8 {
         let _ = place(within, a, links.above[a as usize]);
@@ -38,7 +39,7 @@ fn pull(within: &mut [ClassSet; 64], links: &Links, a: u8, feature: u8) -> Class
     requires class { ⌜ a < 64 ⌝ }
     requires low { ⌜ feature < 16 ⌝ }
     ensures step { λ r. ⌜ ((R : List Rule) → Direct R (now (links .entry)) → Step R (now (within .entry)) r (now (within .exit))) ⌝ }
-    ensures served { λ r. ⌜ ((R : List Rule) → Direct R (now (links .entry)) → Low R → Ordered (now (within .entry)) → has r a ≡ false → Served R (now (within .exit)) a feature) ⌝ }
+    ensures served { λ r. ⌜ ((R : List Rule) → Direct R (now (links .entry)) → RulesLegal R → Ordered (now (within .entry)) → has r a ≡ false → Served R (now (within .exit)) a feature) ⌝ }
     ensures heavier { λ r. ⌜ Heavier (now (within .entry)) r (now (within .exit)) ⌝ }
 {
     let base = 64 * feature as usize;
@@ -52,7 +53,7 @@ fn pull(within: &mut [ClassSet; 64], links: &Links, a: u8, feature: u8) -> Class
 fn visit(within: &mut [ClassSet; 64], links: &Links, a: u8) -> ClassSet
     requires { ⌜ a < 64 ⌝ }
     ensures step { λ r. ⌜ ((R : List Rule) → Direct R (now (links .entry)) → Step R (now (within .entry)) r (now (within .exit))) ⌝ }
-    ensures served { λ r. ⌜ ((R : List Rule) → Direct R (now (links .entry)) → Low R → Ordered (now (within .entry)) → has r a ≡ false → (f : ℕ) → f < 16 → Served R (now (within .exit)) a f) ⌝ }
+    ensures served { λ r. ⌜ ((R : List Rule) → Direct R (now (links .entry)) → RulesLegal R → Ordered (now (within .entry)) → has r a ≡ false → (f : ℕ) → f < 16 → Served R (now (within .exit)) a f) ⌝ }
     ensures heavier { λ r. ⌜ Heavier (now (within .entry)) r (now (within .exit)) ⌝ }
 {
     let mut again = ClassSet::NONE;
@@ -74,7 +75,7 @@ fn every_class() -> ClassSet
 
 // Adds all that the rows of kind 4 pull back; a class waits until it has been looked at since the sets it needs grew.
 pub(crate) fn settle(within: &mut [ClassSet; 64], links: &Links)
-    ensures { λ _. ⌜ ((R : List Rule) → Direct R (now (links .entry)) → Low R → Ready R (now (within .entry)) → Open R (now (within .exit)) none) ⌝ }
+    ensures { λ _. ⌜ ((R : List Rule) → Direct R (now (links .entry)) → RulesLegal R → Ready R (now (within .entry)) → Open R (now (within .exit)) none) ⌝ }
 {
     let mut waiting = every_class();
     while let Some(a) = waiting.take_lowest() {

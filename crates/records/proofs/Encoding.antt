@@ -68,7 +68,7 @@ module _ (rows : List Row) (r : Row) (rest : List ℕ) (l : lawful r ≡ true) (
       let bytes = encoded-row r ++ rest in
       let y = lawful-yes (row-in bytes) (ap lawful (row-back r rest f) ∙ l) in
       let qs = record-questions rows bytes in
-      answers tt qs (asked qs (tt {0})) refl .done .1
+      answers tt qs (asked qs (tt {0})) refl .accepted .1
       (le-leb 10 (length bytes) (omega (arith, row-long)), (y .0, (y .1 .0, (y .1 .1 .0, (y .1 .1 .1 .0, (lt-ltb (length rows) 256 free, tt))))))
 
   row-taken : (n : ℕ) → rule-group (suc n) rows (encoded-row r ++ rest) ≡ rule-group n (rows ++ r ∷ []) rest

@@ -106,4 +106,4 @@ module _ (rows : List Row) (bytes : List ℕ) where
 
   -- a record that is taken is whole
   pub done-whole : asked (record-questions rows bytes) (tt {0}) ≡ Ok tt → 10 ≤ length bytes
-  done-whole a = leb-true 10 (length bytes) (answers tt (record-questions rows bytes) (asked (record-questions rows bytes) (tt {0})) refl .done .0 a .0)
+  done-whole a = leb-true 10 (length bytes) (answers tt (record-questions rows bytes) (asked (record-questions rows bytes) (tt {0})) refl .accepted .0 a .0)

@@ -40,7 +40,7 @@ parted-here rows bytes h s = record
 parted-past : (rows : List Row) (bytes : List ℕ) → asked (next-questions rows bytes) (tt {0}) ≡ Ok tt
     → Parted (rows ++ row-in bytes ∷ []) (drop 10 bytes) → Parted rows bytes
 parted-past rows bytes a g =
-    let y = answers tt (next-questions rows bytes) (asked (next-questions rows bytes) (tt {0})) refl .done .0 a in
+    let y = answers tt (next-questions rows bytes) (asked (next-questions rows bytes) (tt {0})) refl .accepted .0 a in
     let q = y .1 .1 .1 in
     let w = leb-true 10 (length bytes) (y .1 .1 .0) in
     let r = row-in bytes in
@@ -60,7 +60,7 @@ parted-by : (rows : List Row) (bytes : List ℕ) → length rows ≤ 256 → 0 <
     → (length (rows ++ row-in bytes ∷ []) ≤ 256 → Parted (rows ++ row-in bytes ∷ []) (drop 10 bytes)) → Parted rows bytes
 parted-by rows bytes few some (Err n) e on = parted-here rows bytes few (inr (some, (n, e)))
 parted-by rows bytes few some (Ok u) e on =
-    let y = answers tt (next-questions rows bytes) (asked (next-questions rows bytes) (tt {0})) refl .done .0 e in
+    let y = answers tt (next-questions rows bytes) (asked (next-questions rows bytes) (tt {0})) refl .accepted .0 e in
     let free = ltb-true (length rows) 256 (y .1 .1 .1 .1 .1 .1 .1 .0) in
     let m : length (rows ++ row-in bytes ∷ []) ≤ 256 = simp length-push (omega arith) in
     parted-past rows bytes e (on m)

@@ -57,7 +57,7 @@ module _ {A : Type 0} (x : A) where
 
   pub answers : (qs : List Question) (r : Result A ℕ) → r ≡ asked qs x → Answers qs x r
   answers qs r e = record {
-    done = ((λ d. yes-all qs (sym e ∙ d)), (λ y. e ∙ all-yes qs y));
+    accepted = ((λ d. yes-all qs (sym e ∙ d)), (λ y. e ∙ all-yes qs y));
     refused = λ n. ((λ d. at-first qs n (sym e ∙ d)), (λ f. e ∙ (ap (λ (z : List Question). asked z x) (f .place) ∙ first-at n (f .before) (f .after) (f .earlier))));
   }
 

@@ -3,3 +3,6 @@ pub mod Rows
 pub mod Worlds
 pub mod Steps
 pub mod Examples
+pub mod Facts
+pub mod Completed
+pub mod Verdicts

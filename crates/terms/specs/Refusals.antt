@@ -32,6 +32,11 @@ abbrev pub numbered : {A : Type 0} → Result A Refusal → Result A ℕ
 numbered (Ok x) = Ok x
 numbered (Err e) = Err (number e)
 
+-- whether a call was done, or the number of its refusal
+abbrev pub done : {A : Type 0} → Result A Refusal → Result (Unit {0}) ℕ
+done (Ok x) = Ok tt
+done (Err e) = Err (number e)
+
 -- a question that a call asks: its number, and whether the answer is yes
 pub record Question : Type 0 where
   pub number-of : ℕ
@@ -59,5 +64,5 @@ pub record FirstNo (qs : List Question) (n : ℕ) : Type 0 where
 
 -- the law of questions: the call is done exactly when all have yes, and is refused with n exactly when n is the first no
 pub record Answers {A : Type 0} (qs : List Question) (x : A) (r : Result A ℕ) : Type 0 where
-  pub done : (r ≡ Ok x) ↔ AllYes qs
+  pub accepted : (r ≡ Ok x) ↔ AllYes qs
   pub refused : (n : ℕ) → (r ≡ Err n) ↔ FirstNo qs n

@@ -1,11 +1,11 @@
 -- Rules, and the worlds that keep them.
-use Prim.Native.Nat.{ℕ}
+use Prim.Native.Nat.{ℕ, zero, suc}
 use mathlib.Core.Path.{_≡_}
 use mathlib.Core.Bool.{Bool, true, false, cond}
 use mathlib.Core.List.{List, [], _∷_, map, List·Memᴰ}
 use lib.Dec.{eqb}
-use lib.ListN.{getD, take}
 use Rattle.terms.specs.declared.row.Row.{Row}
+use Rattle.terms.specs.Rows.{feature-at}
 
 infix 4 _∈_
 -- x stands in the list
@@ -20,14 +20,19 @@ pub data Rule : Type 0 where
   pullback : (f A B : ℕ) → Rule
   key : (A B : ℕ) → List ℕ → Rule
 
+-- n features of the row, from place k on
+abbrev pub features-from : Row → ℕ → ℕ → List ℕ
+features-from r k zero = []
+features-from r k (suc n) = feature-at r k ∷ features-from r (suc k) n
+
 -- the rule that a row says: kinds 1 to 5
 abbrev pub rule-of : Row → Rule
 rule-of r =
     cond (eqb (r .kind) 1) (subclass (r .left) (r .right))
     (cond (eqb (r .kind) 2) (disjoint (r .left) (r .right))
-    (cond (eqb (r .kind) 3) (value (r .left) (getD (r .features) 0 0) (r .right))
-    (cond (eqb (r .kind) 4) (pullback (getD (r .features) 0 0) (r .left) (r .right))
-    (key (r .left) (r .right) (take (r .count) (r .features))))))
+    (cond (eqb (r .kind) 3) (value (r .left) (feature-at r 0) (r .right))
+    (cond (eqb (r .kind) 4) (pullback (feature-at r 0) (r .left) (r .right))
+    (key (r .left) (r .right) (features-from r 0 (r .count))))))
 
 abbrev pub rules-of : List Row → List Rule
 rules-of rows = map rule-of rows

@@ -1,4 +1,5 @@
-// The terms that every crate shares: refusals and the rows of a part book.
+// The terms that every crate shares: refusals, and the rows and facts of a part book.
 pub mod example;
+pub mod fact;
 pub mod refusal;
 pub mod row;

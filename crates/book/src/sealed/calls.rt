@@ -49,7 +49,7 @@ impl Book {
     pub fn within(&self, class: u8) -> ClassSet
         ensures value { λ r. ⌜ r ≡ within-set (now (self .entry)) class ⌝ }
         ensures exact { λ r. ⌜ ((B : ℕ) → (has r B ≡ true) ↔ ((class < 64) × ∥ Within (rules-of (rows-of (now (self .entry)))) class B ∥₁)) ⌝ }
-        ensures holds { λ r. ⌜ ((B : ℕ) → has r B ≡ true → AlwaysWithin (rules-of (rows-of (now (self .entry)))) class B) ⌝ }
+        ensures certain { λ r. ⌜ ((B : ℕ) → (has r B ≡ true) ↔ ((class < 64) × AlwaysWithin (rules-of (rows-of (now (self .entry)))) class B)) ⌝ }
     {
         if class >= 64 {
             return ClassSet::NONE;
@@ -61,7 +61,7 @@ impl Book {
     pub fn leads(&self, class: u8, feature: u8) -> ClassSet
         ensures value { λ r. ⌜ r ≡ leads-set (now (self .entry)) class feature ⌝ }
         ensures exact { λ r. ⌜ ((B : ℕ) → (has r B ≡ true) ↔ ∥ Leads (rules-of (rows-of (now (self .entry)))) class feature B ∥₁) ⌝ }
-        ensures holds { λ r. ⌜ ((B : ℕ) → has r B ≡ true → AlwaysLeads (rules-of (rows-of (now (self .entry)))) class feature B) ⌝ }
+        ensures certain { λ r. ⌜ ((B : ℕ) → (has r B ≡ true) ↔ AlwaysLeads (rules-of (rows-of (now (self .entry)))) class feature B) ⌝ }
     {
         if class >= 64 || feature >= 16 {
             return ClassSet::NONE;

@@ -27,4 +27,4 @@ loop-a-again c =
 pub returns : need.returns
 returns c R d lo so or =
     let h = c .loop-a .inv .1 R d so or in
-    record { sound = h .0; ordered = h .1; rules = λ A B m. h .2 A B (let z = lo .sub A B m in omega arith) m }
+    record { sound = h .0; ordered = h .1; rules = λ A B m. h .2 A B (let z = lo _ m in omega arith) m }
