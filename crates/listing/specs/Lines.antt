@@ -57,6 +57,14 @@ class-lines b A = within-line b A ++ joined-below 16 (leads-line b A)
 abbrev pub book-lines : Book → List ℕ
 book-lines b = codes "rules " ++ (decimal (length (rows-of b)) ++ (10 ∷ joined-below 64 (class-lines b)))
 
+-- "impossible" and the classes of a set; none where it has no class
+abbrev pub impossible-line : ClassSet → List ℕ
+impossible-line s = line (codes "impossible") (has s)
+
+-- the lines of a book whose impossible classes are those of the set
+abbrev pub all-lines : Book → ClassSet → List ℕ
+all-lines b s = book-lines b ++ impossible-line s
+
 -- each refusal in plain words
 abbrev pub reason : Refusal → List ℕ
 reason UnknownKind = codes "the kind is not known"

@@ -1,7 +1,7 @@
 // Lines for people: the class steps of a book, and why a record is refused.
 ghost use mathlib.Core.List.{_++_};
 ghost use mathlib.Core.Path.{_≡_};
-ghost use Rattle.listing.specs.Lines.{book-lines, class-lines, kept, leads-line, numbers, reason, refusal-line, within-line};
+ghost use Rattle.listing.specs.Lines.{all-lines, book-lines, class-lines, impossible-line, kept, leads-line, numbers, reason, refusal-line, within-line};
 ghost use Rattle.std.specs.Of.String.{string-bytes};
 ghost use Rattle.std.specs.Vec.{made};
 use book::sealed::Book;
@@ -11,18 +11,37 @@ use std::alloc::Global;
 use std::fmt;
 use terms::refusal::Refusal;
 
-// The number of rows of a book, then the class steps of each class.
-pub fn book_lines(heap: Global, book: &Book) -> Result<String, AllocError>
-    ensures { λ r. ⌜ made r (λ s. string-bytes s ≡ book-lines (now (book .entry))) ⌝ }
+// The number of rows of a book, the class steps of each class, and the classes that are impossible.
+pub fn book_lines(heap: Global, book: &Book, impossible: ClassSet) -> Result<String, AllocError>
+    ensures { λ r. ⌜ made r (λ s. string-bytes s ≡ all-lines (now (book .entry)) impossible) ⌝ }
 {
     let mut out = String::new(heap);
-    match write_book(heap, &mut out, book) {
+    match write_all(heap, &mut out, book, impossible) {
         Ok(()) => Ok(out),
         Err(_) => Err(AllocError),
     }
 }
 
-// Writes the lines of a book behind what `out` holds; each writer below adds to `out` likewise.
+// Writes the lines behind what `out` holds; each writer below adds to `out` likewise.
+fn write_all(heap: Global, out: &mut String, book: &Book, impossible: ClassSet) -> fmt::Result
+    ensures { λ r. ⌜ made r (λ _. string-bytes (now (out .exit)) ≡ string-bytes (now (out .entry)) ++ all-lines (now (book .entry)) impossible) ⌝ }
+{
+    write_book(heap, out, book)?;
+    write_impossible(heap, out, impossible)
+}
+
+// The line of the classes that no world can have an object in, if there is one.
+fn write_impossible(heap: Global, out: &mut String, impossible: ClassSet) -> fmt::Result
+    ensures { λ r. ⌜ made r (λ _. string-bytes (now (out .exit)) ≡ string-bytes (now (out .entry)) ++ impossible-line impossible) ⌝ }
+{
+    let mut numbers = String::new(heap);
+    write_numbers(&mut numbers, impossible, None)?;
+    if !numbers.is_empty() {
+        writeln!(out, "impossible{numbers}")?;
+    }
+    Ok(())
+}
+
 fn write_book(heap: Global, out: &mut String, book: &Book) -> fmt::Result
     ensures { λ r. ⌜ made r (λ _. string-bytes (now (out .exit)) ≡ string-bytes (now (out .entry)) ++ book-lines (now (book .entry))) ⌝ }
 {

@@ -20,7 +20,7 @@ module _ {A : Type 0} (x : A) where
   no-here : (q : Question) (qs : List Question) → q .holds ≡ false → asked (q ∷ qs) x ≡ Err (q .number-of)
   no-here q qs h = ap (λ (b : Bool). cond b (asked qs x) (Err (q .number-of))) h
 
-  all-yes : (qs : List Question) → AllYes qs → asked qs x ≡ Ok x
+  pub all-yes : (qs : List Question) → AllYes qs → asked qs x ≡ Ok x
   all-yes [] y = refl
   all-yes (q ∷ qs) y = yes-on q qs (y .0) ∙ all-yes qs (y .1)
 
