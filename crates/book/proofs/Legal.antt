@@ -54,7 +54,7 @@ lawful-in (x ∷ rows) r m h =
 pub rule-1 : (r : Row) → r .kind ≡ 1 → rule-of r ≡ subclass (r .left) (r .right)
 rule-1 r e = rw e
 
-rule-2 : (r : Row) → r .kind ≡ 2 → rule-of r ≡ disjoint (r .left) (r .right)
+pub rule-2 : (r : Row) → r .kind ≡ 2 → rule-of r ≡ disjoint (r .left) (r .right)
 rule-2 r e = rw e
 
 pub rule-3 : (r : Row) → r .kind ≡ 3 → rule-of r ≡ value (r .left) (feature-at r 0) (r .right)

@@ -1,7 +1,7 @@
 -- A table that is sound, ordered, and has all that the rules pull back holds exactly the class steps.
 use Prim.Native.Nat.{ℕ, _+_, _*_, _-_, _%_, _<_}
 use mathlib.Core.Path.{_≡_, refl, sym, _∙_, subst}
-use mathlib.Core.Logic.{_⊎_, inl, inr, _↔_}
+use mathlib.Core.Logic.{inl, inr, _↔_}
 use mathlib.Core.List.{List}
 use native.Mathlib.Omega.{arith}
 use Rattle.classes.specs.declared.ClassSet.{ClassSet}

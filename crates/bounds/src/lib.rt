@@ -1,3 +1,5 @@
-// Tests of rows, drafts and books at both sides of each bound.
+// Tests of the library calls at both sides of each bound, and of long searches.
+#[cfg(test)]
+mod searches;
 #[cfg(test)]
 mod tests;

@@ -1,5 +1,5 @@
--- The binary digits of a number: of 0, of one power, of a union, and below the lowest that is set.
-use Prim.Native.Nat.{ℕ, zero, suc, _-_, _*_, _/_, _%_, _^_, max, _<_, _≤_}
+-- The binary digits of a number: of 0, of one power, of a union and a difference, and below the lowest that is set.
+use Prim.Native.Nat.{ℕ, zero, suc, _+_, _-_, _*_, _/_, _%_, _^_, min, max, _<_, _≤_}
 use mathlib.Core.Path.{_≡_, refl, sym, _∙_, ap, ap₂, subst}
 use mathlib.Core.Logic.{inl, inr}
 use mathlib.Core.Bool.{Bool, true, false, not, _&&_, _||_}
@@ -7,10 +7,11 @@ use native.Mathlib.Omega.{arith}
 use native.Mathlib.Nat.{zero-div, div-one, div-eq-of-lt, pow-suc}
 use native.Mathlib.Numerals.{one-add}
 use lib.Dec.{eqb, ltb}
-use lib.Bits.{bitOr, or-shr, or-step}
+use lib.Bits.{bitAnd, bitOr, and-shr, and-step, or-shr, or-step}
 use lib.Count.{trailingZeros, under}
+use lib.Pow.{pow-mono}
 use Rattle.std.proofs.shelf.Bits.{shr-shr, mod-below}
-use Rattle.std.proofs.shelf.Tests.{cases-eq, eq-eqb, ne-eqb, and-left, and-right}
+use Rattle.std.proofs.shelf.Tests.{cases-eq, cases-lt, eq-eqb, ne-eqb, and-left, and-right}
 use Rattle.std.proofs.shelf.Ways.{tells}
 
 abbrev pub bit : ℕ → ℕ → Bool
@@ -60,6 +61,42 @@ bit-or a b k =
     ap (λ (x : ℕ). eqb (x % 2) 1) (or-shr a b k)
     ∙ ap (λ (x : ℕ). eqb x 1) (or-odd (a / 2 ^ k) (b / 2 ^ k))
     ∙ max-one (a / 2 ^ k % 2) (b / 2 ^ k % 2) (omega arith) (omega arith)
+
+min-one : (p q : ℕ) → p < 2 → q < 2 → eqb (min p q) 1 ≡ (eqb p 1 && eqb q 1)
+min-one p q a b = grind (arith, tells)
+
+and-odd : (x y : ℕ) → bitAnd x y % 2 ≡ min (x % 2) (y % 2)
+and-odd x y = let e = and-step x y in omega (arith, e)
+
+bit-and : (a b k : ℕ) → bit (bitAnd a b) k ≡ (bit a k && bit b k)
+bit-and a b k =
+    ap (λ (x : ℕ). eqb (x % 2) 1) (and-shr a b k)
+    ∙ ap (λ (x : ℕ). eqb x 1) (and-odd (a / 2 ^ k) (b / 2 ^ k))
+    ∙ min-one (a / 2 ^ k % 2) (b / 2 ^ k % 2) (omega arith) (omega arith)
+
+-- the digits of the largest number of n digits less b are those that b lacks
+bit-lacks : (n b k : ℕ) → b < 2 ^ n → k < n → bit (2 ^ n - 1 - b) k ≡ not (bit b k)
+bit-lacks zero b k l h = absurd (omega arith)
+bit-lacks (suc n) b zero l h =
+    let p = pow-suc 2 n in
+    bit-first (2 ^ suc n - 1 - b) ∙ other (b % 2) ((2 ^ suc n - 1 - b) % 2) (omega (arith, p)) ∙ ap not (sym (bit-first b))
+  where
+    other : (r s : ℕ) → r + s ≡ 1 → eqb s 1 ≡ not (eqb r 1)
+    other r s e = grind (arith, tells)
+bit-lacks (suc n) b (suc k) l h =
+    let p = pow-suc 2 n in
+    let e : (2 ^ suc n - 1 - b) / 2 ≡ 2 ^ n - 1 - b / 2 = omega (arith, p) in
+    bit-next (2 ^ suc n - 1 - b) k ∙ ap (λ (x : ℕ). bit x k) e ∙ bit-lacks n (b / 2) k (omega (arith, p)) (omega arith)
+    ∙ ap not (sym (bit-next b k))
+
+pub bit-minus : (n a b k : ℕ) → a < 2 ^ n → b < 2 ^ n → bit (bitAnd a (2 ^ n - 1 - b)) k ≡ (bit a k && not (bit b k))
+bit-minus n a b k l m =
+    bit-and a (2 ^ n - 1 - b) k ∙ elim (cases-lt k n) [
+      | inl h ↦ ap (λ (x : Bool). bit a k && x) (bit-lacks n b k m h)
+      | inr h ↦
+          let z : bit a k ≡ false = bit-past a k (let p : 2 ^ n ≤ 2 ^ k = pow-mono h in omega arith) in
+          and-left (bit a k) _ z ∙ sym (and-left (bit a k) _ z)
+    ]
 
 -- numbers with the same digits are the same
 pub same-bits : (k a b : ℕ) → a < 2 ^ k → b < 2 ^ k → ((j : ℕ) → bit a j ≡ bit b j) → a ≡ b

@@ -2,7 +2,7 @@
 ghost use Prim.Native.Nat.{ℕ};
 ghost use Rattle.classes.specs.Sets.{Lowest, has, joined, weight};
 ghost use lib.Dec.{eqb, ltb};
-ghost use mathlib.Core.Bool.{_&&_, _||_};
+ghost use mathlib.Core.Bool.{_&&_, _||_, not};
 ghost use mathlib.Core.Path.{_≡_};
 
 // A set of classes: class c is in it when bit c is set.
@@ -36,6 +36,15 @@ impl ClassSet {
     {
         ClassSet {
             bits: self.bits | other.bits,
+        }
+    }
+
+    // The classes of the set that are not in the other.
+    pub fn minus(self, other: ClassSet) -> ClassSet
+        ensures { λ r. ⌜ ((k : ℕ) → has r k ≡ (has self k && not (has other k))) ⌝ }
+    {
+        ClassSet {
+            bits: self.bits & !other.bits,
         }
     }
 

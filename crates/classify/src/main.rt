@@ -1,6 +1,7 @@
 // Reads rule records from standard input and prints what the rules imply of the classes.
 use listing::book_lines;
 use listing::refusal_line;
+use possible::impossible;
 use records::reading::read_draft;
 use std::error::AnyError;
 use std::io::Read;
@@ -12,7 +13,8 @@ fn classify(rt: &LibcRuntime) -> Result<bool, AnyError> {
     rt.stdin().take(32768).read_to_end(&mut input)?;
     match read_draft(&input) {
         Ok(draft) => {
-            rt.print(book_lines(heap, &draft.seal())?)?;
+            let book = draft.seal();
+            rt.print(book_lines(heap, &book, impossible(&book))?)?;
             Ok(true)
         }
         Err(fault) => {

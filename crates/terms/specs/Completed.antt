@@ -32,4 +32,4 @@ mutual
   pub data Agree (R : List Rule) (F : List Claim) : ℕ → ℕ → List ℕ → Type 0 where
     on-none : {p q : ℕ} → Agree R F p q []
     on-one-more : {p q f u v : ℕ} {fs : List ℕ} → Known R F (value-at p f u) → Known R F (value-at q f v) → Known R F (one-object u v)
-      → Agree R F p q fs → Agree R F p q (f ∷ fs)
+        → Agree R F p q fs → Agree R F p q (f ∷ fs)

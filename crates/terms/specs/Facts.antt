@@ -5,7 +5,7 @@ use mathlib.Core.Bool.{cond}
 use mathlib.Core.List.{List, map}
 use lib.Dec.{eqb}
 use Rattle.terms.specs.declared.fact.Fact.{Fact}
-use Rattle.terms.specs.Worlds.{_∈_, Rule, Obj, World, In, KeepsAll, KeepsButExclusions}
+use Rattle.terms.specs.Worlds.{_∈_, Rule, World, In, KeepsAll, KeepsButExclusions}
 
 -- what can be claimed of parts
 pub data Claim : Type 0 where

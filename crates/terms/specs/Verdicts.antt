@@ -2,7 +2,7 @@
 use Prim.Native.Nat.{ℕ, _≤_}
 use mathlib.Core.Path.{_≡_}
 use mathlib.Core.List.{List}
-use mathlib.Core.Option.{Option, some}
+use mathlib.Core.Option.{some}
 use lib.ListN.{length, getElem?}
 use Rattle.terms.specs.Worlds.{Rule, disjoint, Obj, World, In, KeepsAll, reach}
 use Rattle.terms.specs.Facts.{Claim, KeepsBook, NearlyKeeps}

@@ -5,9 +5,9 @@ use mathlib.Core.List.{List, [], _∷_}
 use lib.ListN.{length}
 use Rattle.terms.specs.declared.row.Row.{Row}
 use Rattle.terms.specs.declared.fact.Fact.{Fact}
-use Rattle.terms.specs.Worlds.{Rule, rules-of}
+use Rattle.terms.specs.Worlds.{rules-of}
 use Rattle.terms.specs.Steps.{Within}
-use Rattle.terms.specs.Facts.{Claim, claims-of}
+use Rattle.terms.specs.Facts.{claims-of}
 use Rattle.terms.specs.Examples.{plain-row, example-rows}
 use Rattle.terms.specs.Verdicts.{Clash, Stands, CertainMember, CertainSame, Possible}
 use Rattle.theory.specs.Tables.{Tables, Exact}

@@ -2,7 +2,7 @@
 use Prim.Native.Nat.{ℕ}
 use mathlib.Core.Path.{_≡_}
 use mathlib.Core.List.{List, [], _∷_}
-use mathlib.Core.Option.{Option, some}
+use mathlib.Core.Option.{some}
 use lib.ListN.{getElem?}
 use Rattle.terms.specs.Worlds.{Rule, disjoint}
 use Rattle.terms.specs.Steps.{Leads}

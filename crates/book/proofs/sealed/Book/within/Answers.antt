@@ -1,4 +1,3 @@
-use Prim.Native.Nat.{_<_}
 use mathlib.Core.Path.{sym, ap}
 use mathlib.Core.Bool.{Bool, cond}
 use Rattle.std.proofs.shelf.Tests.{lt-ltb, le-ltb}

@@ -1,0 +1,2 @@
+-- Why the search answers whether a class is possible.
+pub mod Undoing

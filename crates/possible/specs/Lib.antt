@@ -1,0 +1,2 @@
+-- What the questions of this crate ask.
+pub mod Questions

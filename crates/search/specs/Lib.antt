@@ -1,0 +1,3 @@
+-- What the search promises, and what its functions promise each other.
+pub mod Graph
+pub mod Search
