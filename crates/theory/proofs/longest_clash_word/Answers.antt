@@ -1,4 +1,5 @@
 -- The theorems, each by its proof.
+use mathlib.Core.Path.{refl}
 use Rattle.theory.proofs.longest_clash_word.Needs as need
 use Rattle.theory.proofs.Sound.{completed-is-true}
 use Rattle.theory.proofs.Follow.{canonical-world}
@@ -12,6 +13,7 @@ use Rattle.theory.proofs.CaseTables.{cases-have-tables}
 
 pub returns : need.returns
 returns c = record {
+  number = refl;
   bound = λ R F t l x. clashes-are-paths R F t l x .bound;
   completed-is-true = completed-is-true;
   canonical-world = canonical-world;
