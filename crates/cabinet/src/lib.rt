@@ -1,4 +1,6 @@
 // The log of a control cabinet: a store of a buyer's own make.
+#![tactic(auto)]
+
 ghost use Rattle.std.specs.Prelude.{◌≡◌, [], ◌++◌, replicate};
 ghost use Rattle.stores.specs.Meaning.{listed, Tells, places_used};
 ghost use Rattle.cabinet.specs.Logs.{in_use, next_entry, log_facts, log_room, LogValid};

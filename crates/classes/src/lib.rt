@@ -1,4 +1,6 @@
 // Sets of classes, numbered 0 to 63, as the bits of one word.
+#![tactic(auto)]
+
 ghost use Rattle.std.specs.Prelude.{◌≡◌, ℕ, not, ◌&&◌, ◌||◌, ◌==◌, nat_lt};
 ghost use Rattle.classes.specs.Sets.{Lowest, has, joined, weight};
 

@@ -1,4 +1,6 @@
 // Reads rule records from standard input and prints what the rules imply of the classes.
+#![tactic(auto)]
+
 use anyhow::anyhow;
 use listing::{book_lines, refusal_line};
 use possible::impossible;

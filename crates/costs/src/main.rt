@@ -1,4 +1,6 @@
 // Does one thing with the records on standard input again and again, so that its cost can be counted.
+#![tactic(auto)]
+
 use anyhow::{Context, anyhow};
 use book::sealed::Book;
 use image::sound;

@@ -1,4 +1,6 @@
 // Factory images: the sound part of bytes, and a store that reads its facts in place.
+#![tactic(auto)]
+
 ghost use Rattle.std.specs.Prelude.{◌≡◌, ◌+◌, ◌*◌, ◌/◌, ◌≤◌, length};
 ghost use Rattle.stores.specs.Meaning.{listed};
 ghost use Rattle.image.specs.Layout.{fact_at, facts_in, good_at, sound_part, sound_facts, LongestSound};

@@ -1,4 +1,6 @@
 // Lines for people: the class steps of a book, and why a record is refused.
+#![tactic(auto)]
+
 ghost use Rattle.std.specs.Prelude.{◌≡◌, ◌++◌, IfOk, string_bytes, OnOk};
 ghost use Rattle.listing.specs.Lines.{all_lines, book_lines, class_lines, impossible_line, kept, leads_line, numbers, reason, refusal_line, within_line};
 

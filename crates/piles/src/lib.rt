@@ -1,4 +1,6 @@
 // Row stores, images and piles of stores at work.
+#![tactic(auto)]
+
 ghost use Rattle.std.specs.Prelude.{◌≡◌};
 ghost use Rattle.piles.specs.Tables.{told_first};
 

@@ -1,4 +1,6 @@
 // Whether a class can have an object at all.
+#![tactic(auto)]
+
 ghost use Rattle.std.specs.Prelude.{◌≡◌, ℕ, ◌<◌, true, ◌↔◌, length, IfOk, OnErr};
 ghost use Rattle.terms.specs.Refusals.{done, asked};
 ghost use Rattle.terms.specs.Worlds.{rules_of};

@@ -1,4 +1,6 @@
 // A waiting line over memory that the caller lends: entries leave in the order they came.
+#![tactic(auto)]
+
 ghost use Rattle.std.specs.Prelude.{◌≡◌, ◌+◌, ◌<◌, ◌≤◌, ◌↔◌, [], ◌∷◌, ◌++◌, length, IfNone, None, OnErr, ◌==◌, nat_lt, slice_set};
 ghost use Rattle.std.specs.Option.{option_to_list};
 ghost use Rattle.terms.specs.Refusals.{ask, asked, numbered};

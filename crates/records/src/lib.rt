@@ -1,4 +1,6 @@
 // Reading records: bytes into rows, and the number of the record that is refused.
+#![tactic(auto)]
+
 ghost use Rattle.std.specs.Prelude.{◌≡◌};
 ghost use Rattle.terms.specs.Refusals.{numbered};
 ghost use Rattle.records.specs.Records.{at_record, numbered_fault};

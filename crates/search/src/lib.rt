@@ -1,4 +1,6 @@
 // The search for a shortest way from two classes of a part to the two classes of an exclusion row.
+#![tactic(auto)]
+
 ghost use Rattle.std.specs.Prelude.{◌≡◌, length, OnErr};
 ghost use Rattle.search.specs.Graph.{Searched};
 ghost use Rattle.search.specs.Search.{Proper, ordered, place_of};

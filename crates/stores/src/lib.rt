@@ -1,4 +1,6 @@
 // Stores of facts: one interface, the row store, and the additions store over any other.
+#![tactic(auto)]
+
 pub mod additions;
 pub mod calls;
 pub mod pile;

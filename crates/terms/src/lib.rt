@@ -1,4 +1,6 @@
 // The terms that every crate shares: refusals, and the rows and facts of a part book.
+#![tactic(auto)]
+
 pub mod example;
 pub mod fact;
 pub mod refusal;

@@ -1,4 +1,6 @@
 // The theory of part books: theorems of the definitions, on the contract of one function.
+#![tactic(auto)]
+
 ghost use Rattle.std.specs.Prelude.{◌≡◌};
 ghost use Rattle.theory.specs.Theorems.{CompletedIsTrue, CanonicalWorld, TablesAnswer, ClashesArePaths, ClashWordsWithin, StepsAreComplete, PossibleBySearch, ExactIsOne, BelowIsEnough};
 ghost use Rattle.theory.specs.Cases.{WorkedCases, CasesHaveTables};

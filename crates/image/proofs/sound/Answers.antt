@@ -10,15 +10,15 @@ found bytes n e =
     let p : take (6 * n - 0) bytes ≡ sound_part bytes = ap (λ (k : ℕ). take k bytes) (omega (arith, e)) in
     (p, subst (λ (x : List ℕ). LongestSound bytes x (sound_facts bytes)) (sym p) (longest_sound bytes))
 
-pub returns-then-not-is-good : goal.returns-then-not-is-good
-returns-then-not-is-good c =
+pub returns-then-not-is_good : goal.returns-then-not-is_good
+returns-then-not-is_good c =
     let bytes = c.args.bytes.now in
-    let f = found bytes c.loop-place.place (sym (good_stops c.min-records.result c.loop-place.place bytes c.loop-place-test.true c.if-not-is-good.ensures) ∙ c.loop-place.invariant) in
+    let f = found bytes c.loop-place.place (sym (good_stops c.min-records.result c.loop-place.place bytes c.loop-place-test.true c.if-not-is_good.ensures) ∙ c.loop-place.invariant) in
     record { part = f.0; law = f.1 }
 
 pub loop-place-preserved : goal.loop-place-preserved
 loop-place-preserved c =
-    sym (good_on c.min-records.result c.loop-place.place c.args.bytes.now c.loop-place-test.true c.if-not-is-good.ensures) ∙ c.loop-place.invariant
+    sym (good_on c.min-records.result c.loop-place.place c.args.bytes.now c.loop-place-test.true c.if-not-is_good.ensures) ∙ c.loop-place.invariant
 
 pub returns : goal.returns
 returns c =

@@ -6,9 +6,9 @@ use Rattle.listing.proofs.write_all.Goals as goal
 pub returns : goal.returns
 returns c =
     let start = string_bytes c.args.out.now in
-    let middle = string_bytes c.write-book.new.out in
-    let end = string_bytes c.write-impossible.new.out in
+    let middle = string_bytes c.write_book.new.out in
+    let end = string_bytes c.write_impossible.new.out in
     let lines = book_lines c.args.book.now in
     let last = impossible_line c.args.impossible in
-    IfOk-weaker c.write-impossible.result (λ _. end ≡ middle ++ last) (λ _. end ≡ start ++ all_lines c.args.book.now c.args.impossible)
-    (λ _ e. e ∙ ap (λ (xs : List ℕ). xs ++ last) c.in-ok-write-book.ensures ∙ append_assoc start lines last) c.write-impossible.ensures
+    IfOk-weaker c.write_impossible.result (λ _. end ≡ middle ++ last) (λ _. end ≡ start ++ all_lines c.args.book.now c.args.impossible)
+    (λ _ e. e ∙ ap (λ (xs : List ℕ). xs ++ last) c.in-ok-write_book.ensures ∙ append_assoc start lines last) c.write_impossible.ensures

@@ -8,7 +8,7 @@ pub loop-class-init : goal.loop-class-init
 loop-class-init c = joined_none _ _
 
 pub loop-class-preserved : goal.loop-class-preserved
-loop-class-preserved c = joined_more _ _ _ (class_lines c.args.book.now) _ c.loop-class.invariant c.in-ok-write-class.ensures
+loop-class-preserved c = joined_more _ _ _ (class_lines c.args.book.now) _ c.loop-class.invariant c.in-ok-write_class.ensures
 
 pub returns : goal.returns
 returns c =

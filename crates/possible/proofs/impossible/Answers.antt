@@ -7,7 +7,7 @@ use Rattle.terms.specs.Worlds.{rules_of}
 use Rattle.terms.specs.Verdicts.{Possible}
 use Rattle.book.specs.Books.{rows_of}
 use Rattle.possible.proofs.impossible.Goals as goal
-use Rattle.possible.proofs.impossible.Goals.{then-is-impossible, else-is-impossible}
+use Rattle.possible.proofs.impossible.Goals.{then-is_impossible, else-is_impossible}
 
 -- a set of numbers below n that have a property, with n settled too
 module _ (P : ℕ → Type 0) (s t : ClassSet) (n : ℕ) (low : n < 64) (old : (A : ℕ) → (has s A ≡ true) ↔ ((A < n) × P A)) where
@@ -41,15 +41,15 @@ loop-class-preserved c =
     let n = c.loop-class.class in
     let low = c.loop-class-test.true in
     let s = c.loop-class.found in
-    let t = c.if-is-impossible.found in (
-      c.is-impossible.array_long,
-      c.is-impossible.array-long2,
-      elim c.if-is-impossible.branch [
-        | then-is-impossible w ↦
+    let t = c.if-is_impossible.found in (
+      c.is_impossible.array_long,
+      c.is_impossible.array-long2,
+      elim c.if-is_impossible.branch [
+        | then-is_impossible w ↦
             settled never s t n low c.loop-class.invariant.2
-            (λ A. ap (λ (x : ClassSet). has x A) w.found-is ∙ w.insert.ensures A) (c.is-impossible.ensures.0 w.if-is-impossible.true)
-        | else-is-impossible w ↦
+            (λ A. ap (λ (x : ClassSet). has x A) w.found-is ∙ w.insert.ensures A) (c.is_impossible.ensures.0 w.if-is_impossible.true)
+        | else-is_impossible w ↦
             skipped never s t n low c.loop-class.invariant.2 w.found-is
-            (λ h. both_ways _ w.if-is-impossible.false (c.is-impossible.ensures.1 h))
+            (λ h. both_ways _ w.if-is_impossible.false (c.is_impossible.ensures.1 h))
       ],
     )

@@ -9,9 +9,9 @@ use Rattle.book.proofs.Extending.{extend_none, heavier_none, extend_by_none, ext
 use Rattle.book.proofs.closing.extend.Goals as goal
 use Rattle.book.proofs.closing.extend.Goals.{then-ne, else-ne}
 
-pub returns-then-is-empty : goal.returns-then-is-empty
-returns-then-is-empty c =
-    let e = eqb-true (weight c.args.more) 0 (sym c.if-is-empty.ensures) in
+pub returns-then-is_empty : goal.returns-then-is_empty
+returns-then-is_empty c =
+    let e = eqb-true (weight c.args.more) 0 (sym c.if-is_empty.ensures) in
     record { extended = extend_by_none c.args.within.now c.args.a c.args.more e; heavier = heavier_none c.args.within.now }
 
 pub loop-x-init : goal.loop-x-init

@@ -6,24 +6,24 @@ use Rattle.book.proofs.Stepping.{open_first, open_next, measure_less}
 use Rattle.book.proofs.sealing.settle.Goals as goal
 
 pub loop-a-init : goal.loop-a-init
-loop-a-init c = (omega arith, λ R d lo r. open_first R c.args.within.now c.every-class-waiting.result c.every-class-waiting.ensures r)
+loop-a-init c = (omega arith, λ R d lo r. open_first R c.args.within.now c.every_class-waiting.result c.every_class-waiting.ensures r)
 
 pub loop-a-smaller : goal.loop-a-smaller
 loop-a-smaller c =
-    let e : c.union-waiting.result ≡ joined c.take-lowest.new.self c.visit.result = c.union-waiting.ensures.value in
+    let e : c.union-waiting.result ≡ joined c.take_lowest.new.self c.visit.result = c.union-waiting.ensures.value in
     let v = c.visit.new.within in
     let fit : weight c.union-waiting.result < 2 ^ 64 = omega arith in
     subst (λ (s : ClassSet). missing v * 2 ^ 64 + weight s < missing c.loop-a.within * 2 ^ 64 + weight c.loop-a.waiting) (sym e)
-    (measure_less c.loop-a.within v c.loop-a.waiting c.take-lowest.new.self c.visit.result c.in-Some.a
+    (measure_less c.loop-a.within v c.loop-a.waiting c.take_lowest.new.self c.visit.result c.in-Some.a
     (subst (λ (s : ClassSet). weight s < 2 ^ 64) e fit) c.in-Some.ensures c.visit.ensures.heavier)
 
 pub loop-a-preserved : goal.loop-a-preserved
 loop-a-preserved c =
-    let e : joined c.take-lowest.new.self c.visit.result ≡ c.union-waiting.result = sym c.union-waiting.ensures.value in
+    let e : joined c.take_lowest.new.self c.visit.result ≡ c.union-waiting.result = sym c.union-waiting.ensures.value in
     let v = c.visit.new.within in (
       c.visit.array_long,
       λ R d lo r.
           subst (λ (s : ClassSet). Open R v s) e
-          (open_next R c.loop-a.within v c.loop-a.waiting c.take-lowest.new.self c.visit.result c.in-Some.a
+          (open_next R c.loop-a.within v c.loop-a.waiting c.take_lowest.new.self c.visit.result c.in-Some.a
           c.in-Some.ensures (c.visit.ensures.step R d) (λ o k. c.visit.ensures.served R d lo o k) (c.loop-a.invariant.1 R d lo r)),
     )

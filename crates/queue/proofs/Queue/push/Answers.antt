@@ -20,7 +20,7 @@ returns g c =
     let l : length (waiting q) < places q = omega (arith, e, c.if-self.false) in
     let h : q.head < length xs = omega (arith, c.requires.sound.first, c.if-self.false) in
     let w : c.put.new.slots ≡ set xs (wrapped (length xs) (q.head + q.len)) c.args.entry =
-    c.put.ensures.written ∙ ap (λ (i : ℕ). set xs i c.args.entry) c.place-after-at.ensures.counted in
+    c.put.ensures.written ∙ ap (λ (i : ℕ). set xs i c.args.entry) c.place_after-at.ensures.counted in
     record {
       answer = sym (place_free tt (waiting q) (places q) l);
       after = ap (λ (ys : List _). around ys q.head (q.len + 1)) w ∙ around_push xs q.head q.len c.args.entry h c.if-self.false;

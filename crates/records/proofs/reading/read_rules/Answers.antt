@@ -3,18 +3,18 @@ use Rattle.book.specs.Drafts.{listed}
 use Rattle.records.proofs.Turns.{turn_ends, turn_faults, turn_takes}
 use Rattle.records.proofs.reading.read_rules.Goals as goal
 
-pub returns-in-err-at-record : goal.returns-in-err-at-record
-returns-in-err-at-record c =
+pub returns-in-err-at_record : goal.returns-in-err-at_record
+returns-in-err-at_record c =
     let p = err_from_is_err_and c.from-residual.result c.from-residual.ensures.1 in
     let e = turn_faults c.args.bytes.now c.loop-draft.at c.loop-draft.records (listed c.loop-draft.draft) c.loop-draft.invariant
-    c.take-rule.result c.loop-draft-test.ensures c.take-rule.ensures.answer _ c.in-err-at-record.ensures in
+    c.take_rule.result c.loop-draft-test.ensures c.take_rule.ensures.answer _ c.in-err-at_record.ensures in
     rw (p.1, p.2) (record { answer = e; counted = tt })
 
 pub loop-draft-preserved : goal.loop-draft-preserved
 loop-draft-preserved c =
     turn_takes c.args.bytes.now c.loop-draft.at c.loop-draft.records (listed c.loop-draft.draft) c.loop-draft.invariant
-    c.take-rule.result c.loop-draft-test.ensures c.take-rule.ensures.answer
-    c.in-ok-at-record.field-0 (listed c.take-rule.new.draft) c.in-ok-at-record.ensures c.take-rule.ensures.after
+    c.take_rule.result c.loop-draft-test.ensures c.take_rule.ensures.answer
+    c.in-ok-at_record.field-0 (listed c.take_rule.new.draft) c.in-ok-at_record.ensures c.take_rule.ensures.after
 
 pub returns : goal.returns
 returns c = record {

@@ -70,8 +70,8 @@ loop-d-init c =
     let T = c.loop-c.trail.trace in
     let n = c.entry-here.result.mark + 1 in
     let i = c.loop-c.invariant in
-    let w = c.in-Some-take-lowest.ensures in
-    let a = c.in-Some-take-lowest.c in
+    let w = c.in-Some-take_lowest.ensures in
+    let a = c.in-Some-take_lowest.c in
     let r = c.minus-partners.result in
     let rights = leads_set b p.right f in
     let e : c.leads-right.result ≡ rights = c.leads-right.ensures.value in
@@ -80,7 +80,7 @@ loop-d-init c =
     λ k. c.minus-partners.ensures k ∙ ap (λ (x : ClassSet). has x k && not (has (set_at S a) k)) e in (
       i.0,
       i.1,
-      done_cells (Led b p) T n f c.loop-c.left c.take-lowest.new.self a r w i.2 (λ d h. met_or_fresh S T rights a r i.1.met.partners w.low fits m n i.1.met.top d h.1),
+      done_cells (Led b p) T n f c.loop-c.left c.take_lowest.new.self a r w i.2 (λ d h. met_or_fresh S T rights a r i.1.met.partners w.low fits m n i.1.met.top d h.1),
       omega arith,
       i.4,
       fresh_first S T rights a r i.1.met.partners w.low fits m,
@@ -98,13 +98,13 @@ meet-requires c =
     let t = c.loop-d.trail in
     let q = c.loop-d.queue in
     let i = c.loop-d.invariant in
-    let w = c.in-Some-take-lowest.ensures in
-    let a = c.in-Some-take-lowest.c in record {
+    let w = c.in-Some-take_lowest.ensures in
+    let a = c.in-Some-take_lowest.c in record {
       sound = i.0;
-      room = pair_free c.args.parts.now c.args.book.now (waiting q) t (places q) c.in-Some-pop.from c.entry-here.result i.1 c.loop-letter.letter c.take-lowest.new.self a w.low (c.loop-c.invariant.5 a w.was)
-          c.loop-d.partners c.take-lowest-in-loop-d.new.self c.in-Some-take-lowest-2.d i.5 c.in-Some-take-lowest-2.ensures c.of-pair.result c.of-pair.ensures;
-      proper = pair_proper c.args.parts.now c.args.book.now (waiting q) t (places q) c.in-Some-pop.from c.entry-here.result i.1 c.loop-letter.letter c.take-lowest.new.self a w.low (c.loop-c.invariant.5 a w.was)
-          c.loop-d.partners c.take-lowest-in-loop-d.new.self c.in-Some-take-lowest-2.d i.5 c.in-Some-take-lowest-2.ensures c.of-pair.result c.of-pair.ensures;
+      room = pair_free c.args.parts.now c.args.book.now (waiting q) t (places q) c.in-Some-pop.from c.entry-here.result i.1 c.loop-letter.letter c.take_lowest.new.self a w.low (c.loop-c.invariant.5 a w.was)
+          c.loop-d.partners c.take_lowest-in-loop-d.new.self c.in-Some-take_lowest-2.d i.5 c.in-Some-take_lowest-2.ensures c.of-pair.result c.of-pair.ensures;
+      proper = pair_proper c.args.parts.now c.args.book.now (waiting q) t (places q) c.in-Some-pop.from c.entry-here.result i.1 c.loop-letter.letter c.take_lowest.new.self a w.low (c.loop-c.invariant.5 a w.was)
+          c.loop-d.partners c.take_lowest-in-loop-d.new.self c.in-Some-take_lowest-2.d i.5 c.in-Some-take_lowest-2.ensures c.of-pair.result c.of-pair.ensures;
       size = i.1.met.size;
       long = i.1.met.partners.size;
     }
@@ -114,10 +114,10 @@ loop-d-preserved c =
     let t = c.loop-d.trail in
     let q = c.loop-d.queue in
     let i = c.loop-d.invariant in
-    let w = c.in-Some-take-lowest.ensures in
-    let a = c.in-Some-take-lowest.c in
-    let n = pair_turned c.args.parts.now c.args.book.now (waiting q) t (places q) c.in-Some-pop.from c.entry-here.result i.1 c.loop-letter.letter c.take-lowest.new.self a w.low (c.loop-c.invariant.5 a w.was)
-    c.loop-d.partners c.take-lowest-in-loop-d.new.self c.in-Some-take-lowest-2.d i.5 c.in-Some-take-lowest-2.ensures c.of-pair.result c.of-pair.ensures c.meet.new.trail c.meet.ensures.marked
+    let w = c.in-Some-take_lowest.ensures in
+    let a = c.in-Some-take_lowest.c in
+    let n = pair_turned c.args.parts.now c.args.book.now (waiting q) t (places q) c.in-Some-pop.from c.entry-here.result i.1 c.loop-letter.letter c.take_lowest.new.self a w.low (c.loop-c.invariant.5 a w.was)
+    c.loop-d.partners c.take_lowest-in-loop-d.new.self c.in-Some-take_lowest-2.d i.5 c.in-Some-take_lowest-2.ensures c.of-pair.result c.of-pair.ensures c.meet.new.trail c.meet.ensures.marked
     (waiting c.meet.new.queue) (places c.meet.new.queue) c.meet.ensures.line c.meet.ensures.room c.in-default-meet.ensures.row i.2 in
     (c.meet.ensures.sound, n.1, n.0.done, omega (arith, n.0.same, i.3), i.4, n.0.fresh)
 
@@ -126,10 +126,10 @@ loop-c-preserved c =
     let i = c.loop-d.invariant in (
       i.0,
       i.1,
-      done_row (Led c.args.book.now c.in-Some-pop.from) c.loop-d.trail.trace (c.entry-here.result.mark + 1) c.loop-letter.letter c.take-lowest.new.self c.in-Some-take-lowest.c c.loop-d.partners c.in-default-take-lowest-2.ensures.0 i.2,
+      done_row (Led c.args.book.now c.in-Some-pop.from) c.loop-d.trail.trace (c.entry-here.result.mark + 1) c.loop-letter.letter c.take_lowest.new.self c.in-Some-take_lowest.c c.loop-d.partners c.in-default-take_lowest-2.ensures.0 i.2,
       omega (arith, i.3, c.loop-c.invariant.3),
       i.4,
-      (λ k h. c.loop-c.invariant.5 k (was_there {s = c.loop-c.left} {t = c.take-lowest.new.self} k c.in-Some-take-lowest.ensures h).0),
+      (λ k h. c.loop-c.invariant.5 k (was_there {s = c.loop-c.left} {t = c.take_lowest.new.self} k c.in-Some-take_lowest.ensures h).0),
       c.loop-c.invariant.6,
     )
 
@@ -138,7 +138,7 @@ loop-letter-preserved c =
     let i = c.loop-c.invariant in (
       i.0,
       i.1,
-      done_all (Led c.args.book.now c.in-Some-pop.from) c.loop-c.trail.trace (c.entry-here.result.mark + 1) c.loop-letter.letter c.loop-c.left c.in-default-take-lowest.ensures.0 i.2,
+      done_all (Led c.args.book.now c.in-Some-pop.from) c.loop-c.trail.trace (c.entry-here.result.mark + 1) c.loop-letter.letter c.loop-c.left c.in-default-take_lowest.ensures.0 i.2,
       omega (arith, i.3, c.loop-letter.invariant.3),
       i.4,
     )
@@ -148,10 +148,10 @@ returns-in-Some-meet c =
     let t = c.loop-d.trail in
     let q = c.loop-d.queue in
     let i = c.loop-d.invariant in
-    let w = c.in-Some-take-lowest.ensures in
-    let a = c.in-Some-take-lowest.c in
-    pair_struck c.args.parts.now c.args.book.now (waiting q) t (places q) c.in-Some-pop.from c.entry-here.result i.1 c.loop-letter.letter c.take-lowest.new.self a w.low (c.loop-c.invariant.5 a w.was)
-    c.loop-d.partners c.take-lowest-in-loop-d.new.self c.in-Some-take-lowest-2.d i.5 c.in-Some-take-lowest-2.ensures c.of-pair.result c.of-pair.ensures c.meet.new.trail c.meet.ensures.marked
+    let w = c.in-Some-take_lowest.ensures in
+    let a = c.in-Some-take_lowest.c in
+    pair_struck c.args.parts.now c.args.book.now (waiting q) t (places q) c.in-Some-pop.from c.entry-here.result i.1 c.loop-letter.letter c.take_lowest.new.self a w.low (c.loop-c.invariant.5 a w.was)
+    c.loop-d.partners c.take_lowest-in-loop-d.new.self c.in-Some-take_lowest-2.d i.5 c.in-Some-take_lowest-2.ensures c.of-pair.result c.of-pair.ensures c.meet.new.trail c.meet.ensures.marked
     c.in-Some-meet.row c.in-Some-meet.ensures.row
 
 pub returns-in-default-pop : goal.returns-in-default-pop

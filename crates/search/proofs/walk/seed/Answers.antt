@@ -22,12 +22,12 @@ pub loop-a-init : goal.loop-a-init
 loop-a-init c =
     let P = c.args.parts.now in
     let p = c.loop-part.part in
-    let e : c.classes-of-classes.result ≡ set_at P p = c.classes-of-classes.ensures in
-    let fits : weight c.classes-of-classes.result < 2 ^ 64 = omega arith in
+    let e : c.classes_of-classes.result ≡ set_at P p = c.classes_of-classes.ensures in
+    let fits : weight c.classes_of-classes.result < 2 ^ 64 = omega arith in
     let i = c.loop-part.invariant in (
       i.0,
       i.1,
-      done_rows (Sown P) c.loop-part.trail.trace 1 p c.classes-of-classes.result i.2 (λ k _ h. ap (λ (s : ClassSet). has s k) e ∙ h.0),
+      done_rows (Sown P) c.loop-part.trail.trace 1 p c.classes_of-classes.result i.2 (λ k _ h. ap (λ (s : ClassSet). has s k) e ∙ h.0),
       (λ k h. ap (λ (s : ClassSet). has s k) (sym e) ∙ h),
       subst (λ (s : ClassSet). weight s < 2 ^ 64) e fits,
     )
@@ -43,10 +43,10 @@ loop-b-init c =
     let a = c.in-Some.a in
     let r = c.minus-right.result in
     let m : (k : ℕ) → has r k ≡ (has (set_at P p) k && not (has (set_at S a) k)) =
-    λ k. c.minus-right.ensures k ∙ ap (λ (s : ClassSet). has s k && not (has (set_at S a) k)) c.classes-of-classes.ensures in (
+    λ k. c.minus-right.ensures k ∙ ap (λ (s : ClassSet). has s k && not (has (set_at S a) k)) c.classes_of-classes.ensures in (
       i.0,
       i.1,
-      done_cells (Sown P) T 1 p c.loop-a.left c.take-lowest.new.self a r w i.2 (λ d h. met_or_fresh S T (set_at P p) a r i.1.partners w.low i.4 m 1 i.1.top d h.1),
+      done_cells (Sown P) T 1 p c.loop-a.left c.take_lowest.new.self a r w i.2 (λ d h. met_or_fresh S T (set_at P p) a r i.1.partners w.low i.4 m 1 i.1.top d h.1),
       fresh_first S T (set_at P p) a r i.1.partners w.low i.4 m,
     )
 
@@ -59,10 +59,10 @@ meet-requires c =
     let a = c.in-Some.a in
     let ia = c.loop-a.invariant.3 a w.was in record {
       sound = i.0;
-      room = sown_free P c.args.book.now (waiting q) c.loop-b.trail (places q) i.1 c.loop-part.part c.take-lowest.new.self a w.low ia
-          c.loop-b.right c.take-lowest-in-loop-b.new.self c.in-Some-take-lowest.b i.3 c.in-Some-take-lowest.ensures c.of-pair.result c.of-pair.ensures;
-      proper = sown_proper P c.args.book.now (waiting q) c.loop-b.trail (places q) i.1 c.loop-part.part c.take-lowest.new.self a w.low ia
-          c.loop-b.right c.take-lowest-in-loop-b.new.self c.in-Some-take-lowest.b i.3 c.in-Some-take-lowest.ensures c.of-pair.result c.of-pair.ensures;
+      room = sown_free P c.args.book.now (waiting q) c.loop-b.trail (places q) i.1 c.loop-part.part c.take_lowest.new.self a w.low ia
+          c.loop-b.right c.take_lowest-in-loop-b.new.self c.in-Some-take_lowest.b i.3 c.in-Some-take_lowest.ensures c.of-pair.result c.of-pair.ensures;
+      proper = sown_proper P c.args.book.now (waiting q) c.loop-b.trail (places q) i.1 c.loop-part.part c.take_lowest.new.self a w.low ia
+          c.loop-b.right c.take_lowest-in-loop-b.new.self c.in-Some-take_lowest.b i.3 c.in-Some-take_lowest.ensures c.of-pair.result c.of-pair.ensures;
       size = i.1.size;
       long = i.1.partners.size;
     }
@@ -76,8 +76,8 @@ returns-in-Some-meet c =
     let a = c.in-Some.a in
     let ia = c.loop-a.invariant.3 a w.was in record {
       sound = c.meet.ensures.sound;
-      seeded = sown_struck P c.args.book.now (waiting q) c.loop-b.trail (places q) i.1 c.loop-part.part c.take-lowest.new.self a w.low ia
-          c.loop-b.right c.take-lowest-in-loop-b.new.self c.in-Some-take-lowest.b i.3 c.in-Some-take-lowest.ensures c.of-pair.result c.of-pair.ensures
+      seeded = sown_struck P c.args.book.now (waiting q) c.loop-b.trail (places q) i.1 c.loop-part.part c.take_lowest.new.self a w.low ia
+          c.loop-b.right c.take_lowest-in-loop-b.new.self c.in-Some-take_lowest.b i.3 c.in-Some-take_lowest.ensures c.of-pair.result c.of-pair.ensures
           c.meet.new.trail c.meet.ensures.marked c.in-Some-meet.row c.in-Some-meet.ensures.row;
     }
 
@@ -89,8 +89,8 @@ loop-b-preserved c =
     let w = c.in-Some.ensures in
     let a = c.in-Some.a in
     let ia = c.loop-a.invariant.3 a w.was in
-    let n = sown_turned P c.args.book.now (waiting q) c.loop-b.trail (places q) i.1 c.loop-part.part c.take-lowest.new.self a w.low ia
-    c.loop-b.right c.take-lowest-in-loop-b.new.self c.in-Some-take-lowest.b i.3 c.in-Some-take-lowest.ensures c.of-pair.result c.of-pair.ensures
+    let n = sown_turned P c.args.book.now (waiting q) c.loop-b.trail (places q) i.1 c.loop-part.part c.take_lowest.new.self a w.low ia
+    c.loop-b.right c.take_lowest-in-loop-b.new.self c.in-Some-take_lowest.b i.3 c.in-Some-take_lowest.ensures c.of-pair.result c.of-pair.ensures
     c.meet.new.trail c.meet.ensures.marked (waiting c.meet.new.queue) (places c.meet.new.queue) c.meet.ensures.line c.meet.ensures.room c.in-default-meet.ensures.row i.2 in
     (c.meet.ensures.sound, n.met, n.done, n.fresh)
 
@@ -99,7 +99,7 @@ loop-a-preserved c =
     let i = c.loop-b.invariant in (
       i.0,
       i.1,
-      done_row (Sown c.args.parts.now) c.loop-b.trail.trace 1 c.loop-part.part c.take-lowest.new.self c.in-Some.a c.loop-b.right c.in-default-take-lowest.ensures.0 i.2,
+      done_row (Sown c.args.parts.now) c.loop-b.trail.trace 1 c.loop-part.part c.take_lowest.new.self c.in-Some.a c.loop-b.right c.in-default-take_lowest.ensures.0 i.2,
       (λ k h. c.loop-a.invariant.3 k (was_there k c.in-Some.ensures h).0),
       c.loop-a.invariant.4,
     )

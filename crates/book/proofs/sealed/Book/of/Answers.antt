@@ -21,7 +21,7 @@ invariant-of-result c =
         c.requires.room,
         (
           c.requires.lawful,
-          (∣ exact R lo c.settle.new.within served c.of-links.result c.leads-table-leads.result d c.leads-table-leads.ensures ∣₁, tt),
+          (∣ exact R lo c.settle.new.within served c.of-links.result c.leads_table-leads.result d c.leads_table-leads.ensures ∣₁, tt),
         ),
       ),
     )
