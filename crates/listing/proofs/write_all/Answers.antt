@@ -11,4 +11,4 @@ returns c =
     let lines = book_lines c.args.book.now in
     let last = impossible_line c.args.impossible in
     IfOk-weaker c.write_impossible.result (λ _. end ≡ middle ++ last) (λ _. end ≡ start ++ all_lines c.args.book.now c.args.impossible)
-    (λ _ e. e ∙ ap (λ (xs : List ℕ). xs ++ last) c.in-ok-write_book.ensures ∙ append_assoc start lines last) c.write_impossible.ensures
+    (λ _ e. e ∙ ap (λ (xs : List ℕ). xs ++ last) c.in_ok-write_book.ensures ∙ append_assoc start lines last) c.write_impossible.ensures

@@ -4,7 +4,7 @@ use Rattle.book.specs.Books.{leads_set}
 use Rattle.listing.specs.Lines.{numbers}
 use Rattle.listing.proofs.Joining.{line_written, line_left_out}
 use Rattle.listing.proofs.write_leads.Goals as goal
-use Rattle.listing.proofs.write_leads.Goals.{then-not-is_empty+in-ok-writeln, else-not-is_empty}
+use Rattle.listing.proofs.write_leads.Goals.{then-not-is_empty+in_ok-writeln, else-not-is_empty}
 
 pub returns : goal.returns
 returns c =
@@ -13,10 +13,10 @@ returns c =
     let heading : List ℕ = codes "class " ++ (decimal A ++ (codes " leads by " ++ (decimal f ++ codes " to"))) in
     let p : ℕ → Bool = has (leads_set c.args.book.now A f) in
     let ns = c.write_numbers.new.out in
-    let is : string_bytes ns ≡ numbers p = simp (c.new-numbers.ensures.bytes, c.leads.ensures.value) at c.in-ok-write_numbers.ensures in
+    let is : string_bytes ns ≡ numbers p = simp (c.new-numbers.ensures.bytes, c.leads.ensures.value) at c.in_ok-write_numbers.ensures in
     elim c.if-not-is_empty.branch [
-      | then-not-is_empty+in-ok-writeln w ↦
+      | then-not-is_empty+in_ok-writeln w ↦
           line_written heading p ns is _ _ w.if-not-is_empty.ensures
-          (ap string_bytes w.out-is ∙ simp append_assoc w.in-ok-writeln.ensures.bytes)
+          (ap string_bytes w.out-is ∙ simp append_assoc w.in_ok-writeln.ensures.bytes)
       | else-not-is_empty w ↦ line_left_out heading p ns is _ _ w.if-not-is_empty.ensures (ap string_bytes w.out-is)
     ]

@@ -23,12 +23,12 @@ told b A low P lone letters (Some k) v e a =
 pub returns : goal.returns
 returns c =
     let low = c.if-class-ge64.false in
-    let h = c.in-ok-found.ensures.searched in
+    let h = c.in_ok-found.ensures.searched in
     let lone : Lone (within_set c.args.book.now c.args.class) c.lone_part.result =
     subst (λ (s : ClassSet). Lone s c.lone_part.result) c.within.ensures.value c.lone_part.ensures in
     record {
       answer = sym ((answers tt (possible_questions c.args.class (length c.args.pairs.now) (length c.args.parts.now)) _ refl).accepted.1
           (lt-ltb _ _ low, (and_from _ _ (le-leb _ _ c.if-pairs-lt4096.false) (le-leb _ _ c.if-parts-lt256.false), tt)));
-      truth = told c.args.book.now c.args.class low c.lone_part.result lone c.search.new.letters c.in-ok-found.found c.is_none.result c.is_none.ensures h.1;
+      truth = told c.args.book.now c.args.class low c.lone_part.result lone c.search.new.letters c.in_ok-found.found c.is_none.result c.is_none.ensures h.1;
       unchanged = tt;
     }

@@ -1,5 +1,5 @@
-use Rattle.std.proofs.Common.{◌≡◌, ◌+◌, ◌≢◌, List, set, sym, ap, ◌∙◌, subst, arith}
-use Rattle.std.proofs.lemmas.Bool.{not-true, not-false, both_ways, eqb-true}
+use Rattle.std.proofs.Common.{◌≡◌, ◌==◌, ◌+◌, ◌≢◌, List, set, sym, ap, ◌∙◌, subst, arith}
+use Rattle.std.proofs.lemmas.Bool.{not-true, not-false, both_ways, eqb-true, eq-eqb}
 use Rattle.classes.specs.declared.ClassSet.{ClassSet}
 use Rattle.classes.specs.Sets.{weight}
 use Rattle.classes.proofs.Members.{same_weight}
@@ -28,8 +28,8 @@ loop-x-preserved c =
     let d = c.ne.ensures in
     elim c.if-ne.branch [
       | then-ne w ↦
-          let differ : set_at v x ≢ s = λ q. both_ways d.0 (not-true d.0 (sym d.2 ∙ w.if-ne.true)) (d.1.1 (sym (ap weight q))) in
-          let t : set v x s ≡ c.if-ne.within = sym w.within_is in
+          let differ : set_at v x ≢ s = λ q. both_ways (weight s == weight (set_at v x)) (not-true _ (sym d ∙ w.if-ne.true)) (eq-eqb (weight s) (weight (set_at v x)) (sym (ap weight q))) in
+          let t : set v x s ≡ c.if-ne.within = sym w.within-is in
           let g : w.insert.new.self ≡ c.if-ne.grown = sym w.grown-is in
           let e = extend_grown w₀ a more x v c.loop-x.grown c.loop-x.invariant.1 s w.insert.new.self c.widen-new.ensures c.loop-x.invariant.0 c.loop-x-test.true w.insert.ensures in
           let h = extend_heavier w₀ a more x v c.loop-x.grown c.loop-x.invariant.1 s w.insert.new.self c.widen-new.ensures c.loop-x.invariant.0 c.loop-x-test.true w.insert.ensures differ (omega arith) c.loop-x.invariant.2 in (
@@ -38,8 +38,8 @@ loop-x-preserved c =
             subst (λ (y : ClassSet). Heavier w₀ y c.if-ne.within) g (subst (λ (y : List ClassSet). Heavier w₀ w.insert.new.self y) t h),
           )
       | else-ne w ↦
-          let same : s ≡ set_at v x = same_weight s (set_at v x) (d.1.0 (not-false d.0 (sym d.2 ∙ w.if-ne.false))) in
-          let t : v ≡ c.if-ne.within = sym w.within_is in
+          let same : s ≡ set_at v x = same_weight s (set_at v x) (eqb-true (weight s) (weight (set_at v x)) (not-false _ (sym d ∙ w.if-ne.false))) in
+          let t : v ≡ c.if-ne.within = sym w.within-is in
           let g : c.loop-x.grown ≡ c.if-ne.grown = sym w.grown-is in
           let e = extend_same w₀ a more x v c.loop-x.grown c.loop-x.invariant.1 (sym same ∙ c.widen-new.ensures) in (
             c.if-ne.array_long,

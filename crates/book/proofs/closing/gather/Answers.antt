@@ -5,4 +5,4 @@ pub loop-k-init : goal.loop-k-init
 loop-k-init c = gather_none c.args.table.now c.args.base c.args.set
 
 pub returns : goal.returns
-returns c = gather_all c.args.table.now c.args.base c.args.set c.loop-k.rest c.loop-k.all c.in-default.ensures.0 c.loop-k.invariant
+returns c = gather_all c.args.table.now c.args.base c.args.set c.loop-k.rest c.loop-k.all c.in_default.ensures.0 c.loop-k.invariant

@@ -5,13 +5,13 @@ use Rattle.cabinet.specs.Logs.{in_use, log_facts, log_room}
 use Rattle.cabinet.proofs.Logging.{grown_in_use, grown_valid, grown_tells}
 use Rattle.cabinet.proofs.CabinetStore.tell.Goals as goal
 
-pub returns-in-err-check : goal.returns-in-err-check
-returns-in-err-check c =
+pub returns-in_err-check : goal.returns-in_err-check
+returns-in_err-check c =
     let s = c.args.self.now in
-    let p = err_from_is_err_and c.from-residual.result c.from-residual.ensures.1 in
+    let p = err_from_is_err_and c.from_residual.result c.from_residual.ensures.1 in
     rw (p.1, p.2) (record {
       stays = c.requires;
-      tells = tells_unlawful (log_facts s) (log_room s) c.args.fact c.in-err-check.field-0.0 c.in-err-check.ensures;
+      tells = tells_unlawful (log_facts s) (log_room s) c.args.fact c.in_err-check.field-0.0 c.in_err-check.ensures;
       unchanged = λ _. refl;
       written = sym (append-nil (in_use s));
       kept = (refl, refl);
@@ -22,7 +22,7 @@ returns-then-lists c =
     let s = c.args.self.now in
     record {
       stays = c.requires;
-      tells = tells_already (log_facts s) (log_room s) c.args.fact (sym c.in-ok-check.ensures) (sym c.if-lists.ensures);
+      tells = tells_already (log_facts s) (log_room s) c.args.fact (sym c.in_ok-check.ensures) (sym c.if-lists.ensures);
       unchanged = λ _. refl;
       written = sym (append-nil (in_use s));
       kept = (refl, refl);
@@ -33,7 +33,7 @@ returns-then-self-eq32 c =
     let s = c.args.self.now in
     record {
       stays = c.requires;
-      tells = tells_full (log_facts s) (log_room s) c.args.fact (sym c.in-ok-check.ensures) (sym c.if-lists.ensures) (omega arith);
+      tells = tells_full (log_facts s) (log_room s) c.args.fact (sym c.in_ok-check.ensures) (sym c.if-lists.ensures) (omega arith);
       unchanged = λ _. refl;
       written = sym (append-nil (in_use s));
       kept = (refl, refl);
@@ -42,7 +42,7 @@ returns-then-self-eq32 c =
 pub returns : goal.returns
 returns c =
     let s = c.args.self.now in
-    let q = sym c.in-ok-check.ensures in
+    let q = sym c.in_ok-check.ensures in
     let l = sym c.if-lists.ensures in
     record {
       stays = grown_valid s c.args.fact c.requires (omega arith) q l;

@@ -15,8 +15,8 @@ took : (s : ClassSet) (t : ℕ) → Low 64 s.bits t → Took s t (record { bits 
 unfolding has
 took s t r = record { low = r.within; was = r.set; first = r.before; rest = r.cleared; less = omega (arith, pow_pos t) }
 
-pub overflow-sub-self : goal.overflow-sub-self
-overflow-sub-self c =
+pub overflow_sub-self : goal.overflow_sub-self
+overflow_sub-self c =
     let n = c.args.self.now.bits in
     let r = low_trailing 64 n (omega arith) c.if-self-eq0.false in
     omega (arith, power n (omega arith) c.if-self-eq0.false)

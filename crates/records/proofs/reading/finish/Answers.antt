@@ -16,8 +16,8 @@ returns-in-1 c =
     let e : length rest ≡ 1 = simp length-drop (omega arith) in
     ap (at_record c.args.index) (sym (ends_lone rest e))
 
-pub returns-in-default : goal.returns-in-default
-returns-in-default c =
+pub returns-in_default : goal.returns-in_default
+returns-in_default c =
     let rest = drop c.args.at c.args.bytes.now in
     let h : 2 ≤ length rest = simp length-drop (omega arith) in
     ap (at_record c.args.index) (sym (ends_more rest h))

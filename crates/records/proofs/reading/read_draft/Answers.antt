@@ -9,30 +9,30 @@ use Rattle.records.proofs.reading.read_draft.Goals as goal
 pub returns-then-bytes-ge32768 : goal.returns-then-bytes-ge32768
 returns-then-bytes-ge32768 c = record { answer = file_long c.args.bytes.now (omega arith); law = layout_law c.args.bytes.now }
 
-pub returns-in-err-group : goal.returns-in-err-group
-returns-in-err-group c =
+pub returns-in_err-group : goal.returns-in_err-group
+returns-in_err-group c =
     let bytes = c.args.bytes.now in
-    let p = err_from_is_err_and c.from-residual.result c.from-residual.ensures.1 in
-    let a = file_refused bytes (omega arith) _ c.in-err-group.ensures.answer in
+    let p = err_from_is_err_and c.from_residual.result c.from_residual.ensures.1 in
+    let a = file_refused bytes (omega arith) _ c.in_err-group.ensures.answer in
     rw (p.1, p.2) (record { answer = a; law = layout_law bytes })
 
-pub returns-in-err-finish : goal.returns-in-err-finish
-returns-in-err-finish c =
+pub returns-in_err-finish : goal.returns-in_err-finish
+returns-in_err-finish c =
     let bytes = c.args.bytes.now in
-    let group = c.in-ok-group.group in
-    let p = err_from_is_err_and c.from-residual-in-err-finish.result c.from-residual-in-err-finish.ensures.1 in
-    let fault = c.in-err-finish.field-0.0 in
+    let group = c.in_ok-group.group in
+    let p = err_from_is_err_and c.from_residual-in_err-finish.result c.from_residual-in_err-finish.ensures.1 in
+    let fault = c.in_err-finish.field-0.0 in
     let a = file_closed bytes (omega arith) (record { rows = listed group.draft; rest = drop group.end bytes }) group.records
     (Err (record { number_of = number fault.refusal; index = fault.index }))
-    c.in-ok-group.ensures.answer c.in-ok-group.ensures.counted c.in-err-finish.ensures in
+    c.in_ok-group.ensures.answer c.in_ok-group.ensures.counted c.in_err-finish.ensures in
     rw (p.1, p.2) (record { answer = a; law = layout_law bytes })
 
 pub returns : goal.returns
 returns c =
     let bytes = c.args.bytes.now in
-    let group = c.in-ok-group.group in
+    let group = c.in_ok-group.group in
     record {
       answer = file_closed bytes (omega arith) (record { rows = listed group.draft; rest = drop group.end bytes }) group.records (Ok tt)
-          c.in-ok-group.ensures.answer c.in-ok-group.ensures.counted c.in-ok-finish.ensures;
+          c.in_ok-group.ensures.answer c.in_ok-group.ensures.counted c.in_ok-finish.ensures;
       law = layout_law bytes;
     }

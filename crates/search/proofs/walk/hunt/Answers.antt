@@ -86,8 +86,8 @@ loop-d-init c =
       fresh_first S T rights a r i.1.met.partners w.low fits m,
     )
 
-pub overflow-add-trace : goal.overflow-add-trace
-overflow-add-trace c =
+pub overflow_add-trace : goal.overflow_add-trace
+overflow_add-trace c =
     let t = c.loop-d.trail in
     let q = c.loop-d.queue in
     let l = low c.args.parts.now c.args.book.now (waiting q) t.trace t.seen (places q) c.in-Some-pop.from c.entry-here.result c.loop-d.invariant.1 in
@@ -118,7 +118,7 @@ loop-d-preserved c =
     let a = c.in-Some-take_lowest.c in
     let n = pair_turned c.args.parts.now c.args.book.now (waiting q) t (places q) c.in-Some-pop.from c.entry-here.result i.1 c.loop-letter.letter c.take_lowest.new.self a w.low (c.loop-c.invariant.5 a w.was)
     c.loop-d.partners c.take_lowest-in-loop-d.new.self c.in-Some-take_lowest-2.d i.5 c.in-Some-take_lowest-2.ensures c.of-pair.result c.of-pair.ensures c.meet.new.trail c.meet.ensures.marked
-    (waiting c.meet.new.queue) (places c.meet.new.queue) c.meet.ensures.line c.meet.ensures.room c.in-default-meet.ensures.row i.2 in
+    (waiting c.meet.new.queue) (places c.meet.new.queue) c.meet.ensures.line c.meet.ensures.room c.in_default-meet.ensures.row i.2 in
     (c.meet.ensures.sound, n.1, n.0.done, omega (arith, n.0.same, i.3), i.4, n.0.fresh)
 
 pub loop-c-preserved : goal.loop-c-preserved
@@ -126,7 +126,7 @@ loop-c-preserved c =
     let i = c.loop-d.invariant in (
       i.0,
       i.1,
-      done_row (Led c.args.book.now c.in-Some-pop.from) c.loop-d.trail.trace (c.entry-here.result.mark + 1) c.loop-letter.letter c.take_lowest.new.self c.in-Some-take_lowest.c c.loop-d.partners c.in-default-take_lowest-2.ensures.0 i.2,
+      done_row (Led c.args.book.now c.in-Some-pop.from) c.loop-d.trail.trace (c.entry-here.result.mark + 1) c.loop-letter.letter c.take_lowest.new.self c.in-Some-take_lowest.c c.loop-d.partners c.in_default-take_lowest-2.ensures.0 i.2,
       omega (arith, i.3, c.loop-c.invariant.3),
       i.4,
       (λ k h. c.loop-c.invariant.5 k (was_there {s = c.loop-c.left} {t = c.take_lowest.new.self} k c.in-Some-take_lowest.ensures h).0),
@@ -138,7 +138,7 @@ loop-letter-preserved c =
     let i = c.loop-c.invariant in (
       i.0,
       i.1,
-      done_all (Led c.args.book.now c.in-Some-pop.from) c.loop-c.trail.trace (c.entry-here.result.mark + 1) c.loop-letter.letter c.loop-c.left c.in-default-take_lowest.ensures.0 i.2,
+      done_all (Led c.args.book.now c.in-Some-pop.from) c.loop-c.trail.trace (c.entry-here.result.mark + 1) c.loop-letter.letter c.loop-c.left c.in_default-take_lowest.ensures.0 i.2,
       omega (arith, i.3, c.loop-letter.invariant.3),
       i.4,
     )
@@ -154,10 +154,10 @@ returns-in-Some-meet c =
     c.loop-d.partners c.take_lowest-in-loop-d.new.self c.in-Some-take_lowest-2.d i.5 c.in-Some-take_lowest-2.ensures c.of-pair.result c.of-pair.ensures c.meet.new.trail c.meet.ensures.marked
     c.in-Some-meet.row c.in-Some-meet.ensures.row
 
-pub returns-in-default-pop : goal.returns-in-default-pop
-returns-in-default-pop c =
+pub returns-in_default-pop : goal.returns-in_default-pop
+returns-in_default-pop c =
     let P = c.args.parts.now in
     let b = c.args.book.now in
     let t = c.search.trail in
     let q = c.search.queue in
-    subst (Hunted P b t) (sym c.search.invariant.2) (no_path P b (waiting q) t.trace t.seen (places q) (c.in-default-pop.ensures.nothing.0 refl) c.search.invariant.1)
+    subst (Hunted P b t) (sym c.search.invariant.2) (no_path P b (waiting q) t.trace t.seen (places q) (c.in_default-pop.ensures.nothing.0 refl) c.search.invariant.1)

@@ -91,7 +91,7 @@ loop-b-preserved c =
     let ia = c.loop-a.invariant.3 a w.was in
     let n = sown_turned P c.args.book.now (waiting q) c.loop-b.trail (places q) i.1 c.loop-part.part c.take_lowest.new.self a w.low ia
     c.loop-b.right c.take_lowest-in-loop-b.new.self c.in-Some-take_lowest.b i.3 c.in-Some-take_lowest.ensures c.of-pair.result c.of-pair.ensures
-    c.meet.new.trail c.meet.ensures.marked (waiting c.meet.new.queue) (places c.meet.new.queue) c.meet.ensures.line c.meet.ensures.room c.in-default-meet.ensures.row i.2 in
+    c.meet.new.trail c.meet.ensures.marked (waiting c.meet.new.queue) (places c.meet.new.queue) c.meet.ensures.line c.meet.ensures.room c.in_default-meet.ensures.row i.2 in
     (c.meet.ensures.sound, n.met, n.done, n.fresh)
 
 pub loop-a-preserved : goal.loop-a-preserved
@@ -99,7 +99,7 @@ loop-a-preserved c =
     let i = c.loop-b.invariant in (
       i.0,
       i.1,
-      done_row (Sown c.args.parts.now) c.loop-b.trail.trace 1 c.loop-part.part c.take_lowest.new.self c.in-Some.a c.loop-b.right c.in-default-take_lowest.ensures.0 i.2,
+      done_row (Sown c.args.parts.now) c.loop-b.trail.trace 1 c.loop-part.part c.take_lowest.new.self c.in-Some.a c.loop-b.right c.in_default-take_lowest.ensures.0 i.2,
       (λ k h. c.loop-a.invariant.3 k (was_there k c.in-Some.ensures h).0),
       c.loop-a.invariant.4,
     )
@@ -107,7 +107,7 @@ loop-a-preserved c =
 pub loop-part-preserved : goal.loop-part-preserved
 loop-part-preserved c =
     let i = c.loop-a.invariant in
-    (i.0, i.1, done_all (Sown c.args.parts.now) c.loop-a.trail.trace 1 c.loop-part.part c.loop-a.left c.in-default.ensures.0 i.2)
+    (i.0, i.1, done_all (Sown c.args.parts.now) c.loop-a.trail.trace 1 c.loop-part.part c.loop-a.left c.in_default.ensures.0 i.2)
 
 pub returns : goal.returns
 returns c =

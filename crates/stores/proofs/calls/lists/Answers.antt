@@ -2,7 +2,7 @@ use Rattle.std.proofs.Common.{◌≡◌, ◌+◌, ◌<◌, ◌≤◌, Bool, ◌|
 use Rattle.stores.specs.Meaning.{listed}
 use Rattle.stores.proofs.Listing.{listed_on, listed_past, nth_some}
 use Rattle.stores.proofs.calls.lists.Goals as goal
-use Rattle.stores.proofs.calls.lists.Goals.{in-Some+else-same, in-default}
+use Rattle.stores.proofs.calls.lists.Goals.{in-Some+else-same, in_default}
 
 pub returns-then-same : goal.returns-then-same
 returns-then-same g c =
@@ -18,7 +18,7 @@ loop-place-preserved g c =
       | in-Some+else-same w ↦
           ap (λ (b : Bool). b || listed (drop (c.loop-place.place + 1) facts) c.args.fact) w.if-same.ensures
           ∙ sym (listed_on facts c.loop-place.place w.in-Some.other c.args.fact w.in-Some.ensures) ∙ c.loop-place.invariant
-      | in-default w ↦ absurd (nth_some facts c.loop-place.place l w.in-default.ensures)
+      | in_default w ↦ absurd (nth_some facts c.loop-place.place l w.in_default.ensures)
     ]
 
 pub returns : goal.returns

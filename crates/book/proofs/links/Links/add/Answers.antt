@@ -39,5 +39,5 @@ returns-in-4 c R d =
     let f = lawful_feature c.args.row 4 c.requires c.in-4.is (inr refl) in
     push_as R _ _ c.args.self.now _ (rule_4 c.args.row c.in-4.is) (adds_pull c.args.self.now c.args.row.left c.args.row.right c.insert-in-4.new.self p.0 p.1 _ f (omega arith) c.insert-in-4.ensures) d
 
-pub returns-in-default : goal.returns-in-default
-returns-in-default c R d = push_as R _ _ c.args.self.now _ refl (adds_none _ c.args.self.now (rule_silent c.args.row (ne_eqb _ 1 (omega arith)) (ne_eqb _ 3 (omega arith)) (ne_eqb _ 4 (omega arith)))) d
+pub returns-in_default : goal.returns-in_default
+returns-in_default c R d = push_as R _ _ c.args.self.now _ refl (adds_none _ c.args.self.now (rule_silent c.args.row (ne_eqb _ 1 (omega arith)) (ne_eqb _ 3 (omega arith)) (ne_eqb _ 4 (omega arith)))) d

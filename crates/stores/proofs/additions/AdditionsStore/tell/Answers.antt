@@ -5,13 +5,13 @@ use Rattle.stores.proofs.Keeping.{tells_unlawful, tells_already, tells_full}
 use Rattle.stores.proofs.Piling.{own_rows, pile_means, pile_tells}
 use Rattle.stores.proofs.additions.AdditionsStore.tell.Goals as goal
 
-pub returns-in-err-check : goal.returns-in-err-check
-returns-in-err-check g c =
+pub returns-in_err-check : goal.returns-in_err-check
+returns-in_err-check g c =
     let s = c.args.self.now in
-    let p = err_from_is_err_and c.from-residual.result c.from-residual.ensures.1 in
+    let p = err_from_is_err_and c.from_residual.result c.from_residual.ensures.1 in
     rw (p.1, p.2) (record {
       stays = c.requires;
-      tells = tells_unlawful (pile_facts g.S.Store.facts s) (pile_room g.S.Store.facts s) c.args.fact c.in-err-check.field-0.0 c.in-err-check.ensures;
+      tells = tells_unlawful (pile_facts g.S.Store.facts s) (pile_room g.S.Store.facts s) c.args.fact c.in_err-check.field-0.0 c.in_err-check.ensures;
       unchanged = λ _. refl;
       lower = refl;
     })
@@ -21,7 +21,7 @@ returns-then-lists g c =
     let s = c.args.self.now in
     record {
       stays = c.requires;
-      tells = tells_already (pile_facts g.S.Store.facts s) (pile_room g.S.Store.facts s) c.args.fact (sym c.in-ok-check.ensures) (sym c.if-lists.ensures);
+      tells = tells_already (pile_facts g.S.Store.facts s) (pile_room g.S.Store.facts s) c.args.fact (sym c.in_ok-check.ensures) (sym c.if-lists.ensures);
       unchanged = λ _. refl;
       lower = refl;
     }
@@ -31,7 +31,7 @@ returns-then-free-eq0 g c =
     let s = c.args.self.now in
     record {
       stays = c.requires;
-      tells = tells_full (pile_facts g.S.Store.facts s) (pile_room g.S.Store.facts s) c.args.fact (sym c.in-ok-check.ensures) (sym c.if-lists.ensures)
+      tells = tells_full (pile_facts g.S.Store.facts s) (pile_room g.S.Store.facts s) c.args.fact (sym c.in_ok-check.ensures) (sym c.if-lists.ensures)
           (sym c.free.ensures ∙ c.if-free-eq0.true);
       unchanged = λ _. refl;
       lower = refl;
@@ -41,7 +41,7 @@ pub returns : goal.returns
 returns g c =
     let s = c.args.self.now in
     let low = g.S.Store.facts s.below in
-    let q = sym c.in-ok-check.ensures in
+    let q = sym c.in_ok-check.ensures in
     let l = sym c.if-lists.ensures in
     let z : 0 < pile_room g.S.Store.facts s = omega (arith, c.if-free-eq0.false, c.free.ensures) in
     let after = c.put.new.rows in

@@ -8,13 +8,13 @@ use Rattle.stores.proofs.Keeping.{tells_unlawful, tells_already, tells_full}
 use Rattle.stores.proofs.Rowing.{row_within, row_means, row_tells, row_table}
 use Rattle.stores.proofs.row.RowStore.tell.Goals as goal
 
-pub returns-in-err-check : goal.returns-in-err-check
-returns-in-err-check c =
+pub returns-in_err-check : goal.returns-in_err-check
+returns-in_err-check c =
     let s = c.args.self.now in
-    let p = err_from_is_err_and c.from-residual.result c.from-residual.ensures.1 in
+    let p = err_from_is_err_and c.from_residual.result c.from_residual.ensures.1 in
     rw (p.1, p.2) (record {
       stays = c.requires;
-      tells = tells_unlawful (row_facts s) (row_room s) c.args.fact c.in-err-check.field-0.0 c.in-err-check.ensures;
+      tells = tells_unlawful (row_facts s) (row_room s) c.args.fact c.in_err-check.field-0.0 c.in_err-check.ensures;
       unchanged = λ _. refl;
       lent = refl;
       table = sym (take-append-drop s.used s.rows.now);
@@ -25,7 +25,7 @@ returns-then-lists c =
     let s = c.args.self.now in
     record {
       stays = c.requires;
-      tells = tells_already (row_facts s) (row_room s) c.args.fact (sym c.in-ok-check.ensures) (sym c.if-lists.ensures);
+      tells = tells_already (row_facts s) (row_room s) c.args.fact (sym c.in_ok-check.ensures) (sym c.if-lists.ensures);
       unchanged = λ _. refl;
       lent = refl;
       table = sym (take-append-drop s.used s.rows.now);
@@ -36,7 +36,7 @@ returns-then-places-eq0 c =
     let s = c.args.self.now in
     record {
       stays = c.requires;
-      tells = tells_full (row_facts s) (row_room s) c.args.fact (sym c.in-ok-check.ensures) (sym c.if-lists.ensures)
+      tells = tells_full (row_facts s) (row_room s) c.args.fact (sym c.in_ok-check.ensures) (sym c.if-lists.ensures)
           (sym c.places.ensures ∙ c.if-places-eq0.true);
       unchanged = λ _. refl;
       lent = refl;
@@ -46,7 +46,7 @@ returns-then-places-eq0 c =
 pub returns : goal.returns
 returns c =
     let s = c.args.self.now in
-    let q = sym c.in-ok-check.ensures in
+    let q = sym c.in_ok-check.ensures in
     let l = sym c.if-lists.ensures in
     let z : 0 < row_room s = omega (arith, c.if-places-eq0.false, c.places.ensures) in
     let rows = s.rows.now in
