@@ -150,7 +150,7 @@ mod tests {
     #[test]
     fn says_why(rt: HostRuntime) -> Result<(), Fail> {
         let line = refusal_line(rt.alloc(), Refusal::ClassTooHigh, 3)?;
-        assert!(rt; line.as_bytes() == b"record 3: a class is not below 64\n");
+        assert!(rt; line.as_bytes() == b"record 3: a class is not below 64\n".as_slice());
         Ok(())
     }
 
@@ -162,7 +162,7 @@ mod tests {
         set.insert(0);
         let mut out = String::new(rt.alloc());
         write_numbers(&mut out, set, Some(5))?;
-        assert!(rt; out.as_bytes() == b" 0 63");
+        assert!(rt; out.as_bytes() == b" 0 63".as_slice());
         Ok(())
     }
 }

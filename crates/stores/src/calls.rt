@@ -9,8 +9,8 @@ use terms::refusal::Refusal;
 
 // Is the fact in the store's list?
 pub fn lists<S: Store>(store: &S, fact: Fact) -> bool
-    requires { valid store.now }
-    ensures { result ≡ listed (facts store.now) fact }
+    requires { S.Store.valid store.now }
+    ensures { result ≡ listed (S.Store.facts store.now) fact }
 {
     for place in 0..store.count() {
         if let Some(other) = store.at(place) {
@@ -24,11 +24,11 @@ pub fn lists<S: Store>(store: &S, fact: Fact) -> bool
 
 // Tells a store of any make a fact: what is accepted is then listed, at its place, once, and nothing else has changed.
 pub fn tell<S: Store>(store: &mut S, fact: Fact) -> Result<Told, Refusal>
-    requires { valid store.old }
-    ensures stays { valid store.new }
-    ensures tells { Tells (facts store.old) (room store.old) fact result (facts store.new) (room store.new) }
+    requires { S.Store.valid store.old }
+    ensures stays { S.Store.valid store.new }
+    ensures tells { Tells (S.Store.facts store.old) (S.Store.room store.old) fact result (S.Store.facts store.new) (S.Store.room store.new) }
     ensures unchanged { places_used result ≡ 0 → store.new ≡ store.old }
-    ensures law { TellLaw (facts store.old) (room store.old) fact result (facts store.new) (room store.new) }
+    ensures law { TellLaw (S.Store.facts store.old) (S.Store.room store.old) fact result (S.Store.facts store.new) (S.Store.room store.new) }
 {
     store.tell(fact)
 }

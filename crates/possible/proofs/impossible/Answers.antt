@@ -43,7 +43,7 @@ loop-class-preserved c =
     let s = c.loop-class.found in
     let t = c.if-is_impossible.found in (
       c.is_impossible.array_long,
-      c.is_impossible.array-long2,
+      c.is_impossible.array_long2,
       elim c.if-is_impossible.branch [
         | then-is_impossible w ↦
             settled never s t n low c.loop-class.invariant.2

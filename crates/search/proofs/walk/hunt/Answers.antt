@@ -50,7 +50,7 @@ loop-c-init c =
     let f = c.loop-letter.letter in
     let s = c.leads-left.result in
     let e : s ≡ leads_set b p.left f = c.leads-left.ensures.value in
-    let fits : weight (leads_set b p.right f) < 2 ^ 64 = let k = c.leads-right.type-inv in omega (arith, ap weight c.leads-right.ensures.value) in
+    let fits : weight (leads_set b p.right f) < 2 ^ 64 = let k = c.leads-right.type_inv in omega (arith, ap weight c.leads-right.ensures.value) in
     let i = c.loop-letter.invariant in (
       i.0,
       i.1,
