@@ -1,5 +1,5 @@
 -- A log in a valid state: how many facts it has, which stands at a place, and one entry more.
-use Rattle.std.proofs.Common.{◌≡◌, ℕ, ◌+◌, ◌-◌, ◌<◌, ◌≤◌, false, List, [], ◌∷◌, ◌++◌, map, length, get_or, take, set, Some, None, Ok, sym, refl, ap, ◌∙◌, arith}
+use Rattle.std.proofs.Common.{◌≡◌, ℕ, ◌+◌, ◌-◌, ◌<◌, ◌≤◌, false, [], ◌∷◌, ◌++◌, map, length, get_or, set, Some, None, Ok, ap, ◌∙◌, arith}
 use Rattle.std.specs.List.{slice_get}
 use Rattle.std.proofs.lemmas.Option.{slice_get-get_or, slice_get_past}
 use Rattle.std.proofs.lemmas.List.{length-map, length-take-le, length-set, get_or-map, get_or-take, map_push, take_more_set}
@@ -7,7 +7,7 @@ use Rattle.terms.specs.declared.fact.Fact.{Fact}
 use Rattle.terms.specs.Refusals.{asked}
 use Rattle.terms.specs.Lawful.{fact_questions}
 use Rattle.stores.specs.declared.told.Told.TheVariants.{Added}
-use Rattle.stores.specs.Meaning.{listed, Meaning, Tells}
+use Rattle.stores.specs.Meaning.{listed, Tells}
 use Rattle.stores.proofs.Keeping.{means_more, tells_added}
 use Rattle.cabinet.specs.declared.Entry.{Entry}
 use Rattle.cabinet.specs.declared.Cabinet.{Cabinet}

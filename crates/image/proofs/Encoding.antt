@@ -1,13 +1,13 @@
 -- Records and the bytes that encode them; the sound part is the longest front part of its kind.
-use Rattle.std.proofs.Common.{◌≡◌, ℕ, zero, suc, ◌+◌, ◌-◌, ◌*◌, ◌/◌, ◌<◌, ◌≤◌, Bool, true, false, not, ◌&&◌, eqb, ◌⊎◌, List, [], ◌∷◌, ◌++◌, length, get_or, take, Some, None, Option, sym, refl, ap, ◌∙◌, subst, inl, inr, arith}
+use Rattle.std.proofs.Common.{◌≡◌, ℕ, zero, suc, ◌+◌, ◌*◌, ◌/◌, ◌<◌, ◌≤◌, true, false, not, ◌&&◌, eqb, ◌⊎◌, List, [], ◌∷◌, ◌++◌, length, get_or, take, Some, Option, sym, refl, ap, ◌∙◌, subst, inl, inr, arith}
 use Rattle.std.specs.List.{slice_get}
 use Rattle.std.proofs.lemmas.List.{length-append, length-take-le, take_more, append_assoc, append-nil}
-use Rattle.std.proofs.lemmas.Bool.{and_parts, and_from, eqb-true, eq-eqb, cases_Bool, not_from_false}
+use Rattle.std.proofs.lemmas.Bool.{and_parts, and_from, eqb-true, cases_Bool, not_from_false}
 use Rattle.terms.specs.declared.fact.Fact.{Fact}
 use Rattle.terms.specs.Lawful.{lawful_fact}
 use Rattle.stores.specs.Meaning.{Meaning, listed}
-use Rattle.stores.proofs.Listing.{nth_in, in_nth, listed_in, nth_below, nth_lower}
-use Rattle.image.specs.Layout.{encoded_fact, encoded_facts, Sound, LongestSound, fact_at, facts_in, marked_at, good_at, sound_count, sound_part, sound_facts}
+use Rattle.stores.proofs.Listing.{nth_in, in_nth, listed_in, nth_below}
+use Rattle.image.specs.Layout.{encoded_fact, encoded_facts, LongestSound, fact_at, facts_in, marked_at, good_at, sound_count, sound_part, sound_facts}
 use Rattle.image.proofs.Reading.{facts_length, facts_nth, facts_front}
 use Rattle.image.proofs.Counting.{count_fits, count_good, count_longest, sound_means}
 

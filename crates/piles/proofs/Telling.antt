@@ -1,12 +1,11 @@
 -- The table under a row store that was told its first fact.
-use Rattle.std.proofs.Common.{◌≡◌, ℕ, ◌-◌, ◌<◌, ◌≤◌, min, Bool, true, false, cond, ◌&&◌, ltb, ◌⊎◌, List, [], ◌∷◌, ◌++◌, length, take, drop, Ok, Err, Result, sym, refl, ap, ◌∙◌, inl, inr, arith}
+use Rattle.std.proofs.Common.{◌≡◌, ℕ, ◌≤◌, min, ◌&&◌, ltb, List, [], ◌∷◌, ◌++◌, length, take, drop, Result, sym, ap, ◌∙◌, inl, inr, arith}
 use Rattle.std.proofs.lemmas.List.{length-take-le}
 use Rattle.std.proofs.lemmas.Bool.{and_parts, and_from, cases_Bool, cond-true, cond-false, ltb-true, lt-ltb, both_ways}
 use Rattle.terms.specs.declared.fact.Fact.{Fact}
 use Rattle.terms.specs.declared.refusal.Refusal.{Refusal}
 use Rattle.terms.specs.Lawful.{lawful_fact}
 use Rattle.stores.specs.declared.told.Told.{Told}
-use Rattle.stores.specs.declared.told.Told.TheVariants.{Added}
 use Rattle.stores.specs.Meaning.{Tells, TellLaw}
 use Rattle.stores.proofs.Keeping.{means_nothing}
 use Rattle.stores.proofs.Law.{tell_law}

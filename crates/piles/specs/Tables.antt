@@ -1,5 +1,5 @@
 -- What a table of rows holds after a row store over it has ended.
-use Rattle.std.specs.Prelude.{Bool, cond, ◌&&◌, List, [], ◌∷◌, length, drop, nat_lt}
+use Rattle.std.specs.Prelude.{cond, ◌&&◌, List, ◌∷◌, length, drop, nat_lt}
 use Rattle.terms.specs.declared.fact.Fact.{Fact}
 use Rattle.terms.specs.Lawful.{lawful_fact}
 

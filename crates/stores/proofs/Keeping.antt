@@ -1,20 +1,19 @@
 -- Keeping the meaning of a store: what a make needs to show of its opening and of each end of tell, and the law of tell.
-use Rattle.std.proofs.Common.{◌≡◌, ℕ, ◌+◌, ◌-◌, ◌<◌, ◌≤◌, Bool, true, false, cond, ◌&&◌, ◌||◌, ltb, ◌⊎◌, ◌↔◌, List, [], ◌∷◌, ◌++◌, length, replicate, Some, None, Ok, Err, Result, sym, refl, ap, ◌∙◌, subst, inl, inr, append-nil, arith}
+use Rattle.std.proofs.Common.{◌≡◌, ℕ, ◌-◌, ◌<◌, ◌≤◌, Bool, true, false, cond, ◌||◌, ltb, ◌⊎◌, List, [], ◌∷◌, ◌++◌, length, replicate, Some, Ok, Err, Result, sym, refl, ap, ◌∙◌, subst, inl, inr, append-nil, arith}
 use mathlib.Core.List.Memᴰ
 use Rattle.std.specs.List.{slice_get}
 use Rattle.std.proofs.lemmas.List.{length_push}
-use Rattle.std.proofs.lemmas.Bool.{and_parts, and_from, cases_Bool, cases_lt, or_parts, or_from, or_left, or_right, or_cases, ltb-true, lt-ltb, le-ltb, cond-true, cond-false, both_ways}
+use Rattle.std.proofs.lemmas.Bool.{and_parts, and_from, or_from, or_left, or_right, lt-ltb, le-ltb, cond-true, cond-false, both_ways}
 use Rattle.terms.specs.declared.fact.Fact.{Fact}
 use Rattle.terms.specs.declared.refusal.Refusal.{Refusal}
 use Rattle.terms.specs.declared.refusal.Refusal.TheVariants.{NoFreePlace}
-use Rattle.terms.specs.Refusals.{Question, ask, asked, number, numbered, AllYes, Answers, FirstNo}
+use Rattle.terms.specs.Refusals.{Question, ask, asked, number, numbered}
 use Rattle.terms.specs.Lawful.{fact_kind_known, fact_class_low, fact_feature_low, fact_unused_zero, fact_questions, lawful_fact}
-use Rattle.terms.specs.Worlds.{◌∈◌}
 use Rattle.terms.proofs.Asking.{all_yes, answers, asked_on, asked_no}
 use Rattle.stores.specs.declared.told.Told.{Told}
 use Rattle.stores.specs.declared.told.Told.TheVariants.{Added, Already}
-use Rattle.stores.specs.Meaning.{Different, Meaning, listed, saying, tell_questions, accepted_as, places_used, Tells, TellLaw}
-use Rattle.stores.proofs.Listing.{listed_in, in_listed, in_nth, nth_in, nth_push, nth_upper}
+use Rattle.stores.specs.Meaning.{Meaning, listed, tell_questions, accepted_as, places_used, Tells}
+use Rattle.stores.proofs.Listing.{in_listed, nth_in, nth_push}
 
 -- a fact whose questions were asked and had yes is lawful, and the other way round
 pub lawful_yes : (f : Fact) → asked (fact_questions f) (tt {0}) ≡ Ok tt → lawful_fact f ≡ true

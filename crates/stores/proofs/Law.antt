@@ -1,11 +1,11 @@
 -- The law of tell, from its answer and the lists before and after.
-use Rattle.std.proofs.Common.{◌≡◌, ℕ, ◌+◌, ◌-◌, ◌<◌, ◌≤◌, Bool, true, false, cond, ◌&&◌, ◌||◌, ltb, ◌⊎◌, ◌↔◌, List, [], ◌∷◌, ◌++◌, length, replicate, Some, None, Ok, Err, Result, sym, refl, ap, ◌∙◌, subst, inl, inr, append-nil, arith}
+use Rattle.std.proofs.Common.{◌≡◌, ℕ, ◌+◌, ◌-◌, ◌<◌, Bool, true, false, cond, ◌||◌, ltb, ◌⊎◌, List, [], ◌∷◌, ◌++◌, length, replicate, Some, Ok, Err, Result, sym, refl, ap, ◌∙◌, subst, inl, inr, append-nil, arith}
 use Rattle.std.specs.List.{slice_get}
 use Rattle.std.proofs.lemmas.Bool.{and_from, cases_Bool, or_cases, ltb-true, cond-true, cond-false, both_ways}
 use Rattle.terms.specs.declared.fact.Fact.{Fact}
 use Rattle.terms.specs.declared.refusal.Refusal.{Refusal}
-use Rattle.terms.specs.Refusals.{Question, ask, asked, number, numbered, AllYes}
-use Rattle.terms.specs.Lawful.{fact_questions, lawful_fact}
+use Rattle.terms.specs.Refusals.{Question, asked, numbered}
+use Rattle.terms.specs.Lawful.{lawful_fact}
 use Rattle.terms.specs.Worlds.{◌∈◌}
 use Rattle.terms.proofs.Asking.{answers}
 use Rattle.stores.specs.declared.told.Told.{Told}

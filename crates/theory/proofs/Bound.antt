@@ -1,6 +1,5 @@
 -- A shortest clash word has at most 2,079 letters: a longer path is twice at one pair of classes, and can be cut.
 use Rattle.std.proofs.Common.{◌≡◌, ℕ, zero, suc, ◌<◌, ◌≤◌, ◌⊎◌, List, ◌++◌, length, take, drop, subst, inl, inr, le_trans, arith, length-append, length-drop, length-take}
-use mathlib.Core.Option.{none}
 use Rattle.std.proofs.lemmas.Bool.{cases_lt}
 use Rattle.terms.specs.Worlds.{Rule}
 use Rattle.terms.specs.Facts.{Claim}

@@ -1,4 +1,4 @@
-use Rattle.std.proofs.Common.{◌≡◌, ℕ, min, List, [], ◌++◌, length, take, drop, sym, ap, ◌∙◌, subst}
+use Rattle.std.proofs.Common.{◌≡◌, ℕ, List, [], ◌++◌, drop, sym, ap, ◌∙◌, subst}
 use Rattle.terms.specs.declared.fact.Fact.{Fact}
 use Rattle.stores.specs.Meaning.{Tells}
 use Rattle.stores.specs.Rows.{row_facts, row_room}
@@ -17,6 +17,6 @@ returns c =
     let e : s.rows.now ≡ told_first rows c.args.fact =
     told_table rows s.rows.now s.used (row_room s) c.args.fact c.tell.result b
     (t.table ∙ ap (λ (l : List Fact). row_facts s ++ drop s.used l) o.held) t.stays.within in
-    let lent : s.rows.name ≡ c.open-arg·1.given = t.lent ∙ o.lent in
+    let lent = t.lent ∙ o.lent in
     -- what the lender gets back, by the name of the loan
-    c.rows·1.given.1.1 (sym lent) ∙ e
+    c.rows-1.given.1.1 (sym lent) ∙ e

@@ -1,4 +1,4 @@
-use Rattle.std.proofs.Common.{◌≡◌, ◌+◌, Bool, ◌||◌, drop, sym, ap, ◌∙◌, arith}
+use Rattle.std.proofs.Common.{◌+◌, Bool, ◌||◌, drop, sym, ap, ◌∙◌, arith}
 use Rattle.stores.specs.Meaning.{listed}
 use Rattle.stores.proofs.Listing.{listed_on, listed_past}
 use Rattle.cabinet.specs.Logs.{log_facts}

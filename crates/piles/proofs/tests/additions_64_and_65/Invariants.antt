@@ -3,4 +3,4 @@ use Rattle.stores.specs.Rows.{row_facts, RowsValid}
 use Rattle.piles.proofs.tests.additions_64_and_65.Given as goal
 
 abbrev pub invariant-loop-class : goal.invariant-loop-class
-invariant-loop-class l = PileValid row_facts RowsValid l.pile
+invariant-loop-class g l = PileValid row_facts RowsValid l.pile

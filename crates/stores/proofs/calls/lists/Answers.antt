@@ -1,4 +1,4 @@
-use Rattle.std.proofs.Common.{◌≡◌, ◌+◌, ◌<◌, ◌≤◌, Bool, ◌||◌, length, drop, sym, ap, ◌∙◌, arith}
+use Rattle.std.proofs.Common.{◌+◌, ◌<◌, ◌≤◌, Bool, ◌||◌, length, drop, sym, ap, ◌∙◌, arith}
 use Rattle.stores.specs.Meaning.{listed}
 use Rattle.stores.proofs.Listing.{listed_on, listed_past, nth_some}
 use Rattle.stores.proofs.calls.lists.Goals as goal

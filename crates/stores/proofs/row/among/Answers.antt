@@ -1,4 +1,4 @@
-use Rattle.std.proofs.Common.{◌≡◌, ◌+◌, Bool, ◌||◌, take, drop, sym, ap, ◌∙◌}
+use Rattle.std.proofs.Common.{◌+◌, Bool, ◌||◌, take, drop, sym, ap, ◌∙◌}
 use Rattle.stores.specs.Meaning.{listed}
 use Rattle.stores.proofs.Listing.{listed_row, listed_rows}
 use Rattle.stores.proofs.row.among.Goals as goal

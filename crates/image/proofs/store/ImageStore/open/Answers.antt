@@ -1,4 +1,4 @@
-use Rattle.std.proofs.Common.{◌≡◌, List, sym, subst}
+use Rattle.std.proofs.Common.{List, sym, subst}
 use Rattle.terms.specs.declared.fact.Fact.{Fact}
 use Rattle.image.specs.Layout.{LongestSound}
 use Rattle.image.proofs.Encoding.{part_facts}

@@ -1,4 +1,4 @@
-use Rattle.std.proofs.Common.{◌≡◌, Bool, ◌||◌, take, sym, ap, ◌∙◌}
+use Rattle.std.proofs.Common.{Bool, ◌||◌, take, sym, ap, ◌∙◌}
 use Rattle.stores.specs.Meaning.{listed}
 use Rattle.stores.proofs.Listing.{listed_both}
 use Rattle.stores.proofs.additions.Additions.lists.Goals as goal

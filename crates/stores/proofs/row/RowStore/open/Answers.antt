@@ -1,4 +1,4 @@
-use Rattle.std.proofs.Common.{refl, arith, rules}
+use Rattle.std.proofs.Common.{refl, arith}
 use Rattle.stores.proofs.Keeping.{means_nothing}
 use Rattle.stores.proofs.row.RowStore.open.Goals as goal
 

@@ -1,8 +1,6 @@
-use Rattle.std.proofs.Common.{◌≡◌, ◌<◌, Ok, sym, refl, ◌∙◌, arith}
+use Rattle.std.proofs.Common.{◌<◌, sym, refl, ◌∙◌, arith}
 use Rattle.std.proofs.lemmas.List.{take-append-drop}
 use Rattle.std.proofs.lemmas.Result.{err_from_is_err_and}
-use Rattle.terms.specs.Refusals.{asked}
-use Rattle.terms.specs.Lawful.{fact_questions}
 use Rattle.stores.specs.Rows.{row_facts, row_room}
 use Rattle.stores.proofs.Keeping.{tells_unlawful, tells_already, tells_full}
 use Rattle.stores.proofs.Rowing.{row_within, row_means, row_tells, row_table}
