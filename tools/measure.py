@@ -2,7 +2,7 @@
 """Counts the instructions of sealing full books of 256 rows, of the densest searches, and of telling and reading 5,000
 facts, and writes docs/COSTS.md.
 
-Run it from the repository's root after `rt check costs`; it needs valgrind.
+Run it from the repository's root after `rt ci`, which builds the program; it needs valgrind.
 """
 import os
 import random
@@ -10,7 +10,7 @@ import re
 import subprocess
 import tempfile
 
-PROGRAM = "target/bin/costs"
+PROGRAM = "crates/costs/out/costs"
 PAGE = "docs/COSTS.md"
 ROWS = 256
 

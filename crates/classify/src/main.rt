@@ -1,11 +1,11 @@
 // Reads rule records from standard input and prints what the rules imply of the classes.
 #![tactic(auto)]
 
-use anyhow::anyhow;
 use listing::{book_lines, refusal_line};
 use possible::impossible;
 use records::reading::read_draft;
 use std::io::Read;
+use std::process::ExitCode;
 
 // Prints the lines of the book, or why a record is refused; was the book accepted?
 fn classify(rt: &HostRuntime) -> anyhow::Result<bool> {
@@ -25,10 +25,10 @@ fn classify(rt: &HostRuntime) -> anyhow::Result<bool> {
     }
 }
 
-fn main(rt: HostRuntime) -> anyhow::Result<()> {
+fn main(rt: HostRuntime) -> anyhow::Result<ExitCode> {
     if classify(&rt)? {
-        Ok(())
+        Ok(ExitCode::SUCCESS)
     } else {
-        Err(anyhow!("refused"))
+        Ok(ExitCode::FAILURE)
     }
 }
