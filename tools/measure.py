@@ -132,10 +132,11 @@ def stores_table():
 
 
 def main():
+    kit = subprocess.run(["rt", "version"], capture_output=True, text=True, check=True).stdout.split()[0]
     lines = [
         "# What sealing, searching and storing cost",
         "",
-        "Instructions, counted by `valgrind --tool=callgrind` and written by `tools/measure.py`. A count is the same on every run of the same binary.",
+        f"Instructions, counted by `valgrind --tool=callgrind` and written by `tools/measure.py`, of the program that {kit} builds. A count is the same on every run of the same binary.",
         "",
         "## Sealing a full book of 256 rows",
         "",
