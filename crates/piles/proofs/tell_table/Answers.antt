@@ -19,4 +19,4 @@ returns c =
     (t.table ∙ ap (λ (l : List Fact). row_facts s ++ drop s.used l) o.held) t.stays.within in
     let lent = t.lent ∙ o.lent in
     -- what the lender gets back, by the name of the loan
-    c.rows-1.given.1.1 (sym lent) ∙ e
+    record { answer = b.answer; table = c.rows-1.given.1.1 (sym lent) ∙ e }
