@@ -1,24 +1,12 @@
 -- One record of a group, and the end of the file.
-use Rattle.std.proofs.Common.{◌≡◌, ℕ, zero, suc, ◌≤◌, Bool, true, false, cond, not, ◌&&◌, eqb, leb, List, [], ◌∷◌, ◌++◌, length, get_or, drop, Ok, Err, Result, refl, ap, ◌∙◌, arith}
-use Rattle.std.proofs.lemmas.Bool.{ne_eqb, and_parts, leb-true}
+use Rattle.std.proofs.Common.{◌≡◌, ℕ, zero, suc, ◌≤◌, Bool, true, false, cond, ◌&&◌, eqb, leb, List, [], ◌∷◌, ◌++◌, length, get_or, drop, Ok, Err, Result, refl, ap, ◌∙◌, arith}
+use Rattle.std.proofs.lemmas.Bool.{and_parts, leb-true}
 use Rattle.terms.specs.declared.row.Row.{Row}
 use Rattle.terms.specs.declared.refusal.Refusal.{Refusal}
-use Rattle.terms.specs.Refusals.{Question, ask, asked, numbered}
+use Rattle.terms.specs.Refusals.{Question, asked, numbered}
 use Rattle.terms.proofs.Asking.{answers, asked_on, asked_no}
 use Rattle.book.specs.Drafts.{rule_questions, grown}
-use Rattle.records.specs.Records.{Refused, rule_marked, row_in, record_questions, end_questions, at_record, onward, rule_group}
-
--- what the file ends with
-pub ends_empty : (rest : List ℕ) → length rest ≡ 0 → asked (end_questions rest) (tt {0}) ≡ Ok tt
-ends_empty rest e = ap (λ (n : ℕ). asked (ask 12 (not (eqb n 1)) ∷ ask 13 (eqb n 0) ∷ []) (tt {0})) e
-
-pub ends_lone : (rest : List ℕ) → length rest ≡ 1 → asked (end_questions rest) (tt {0}) ≡ Err 12
-ends_lone rest e = ap (λ (n : ℕ). asked (ask 12 (not (eqb n 1)) ∷ ask 13 (eqb n 0) ∷ []) (tt {0})) e
-
-pub ends_more : (rest : List ℕ) → 2 ≤ length rest → asked (end_questions rest) (tt {0}) ≡ Err 13
-ends_more rest h =
-    ap (λ (b : Bool). asked (ask 12 (not b) ∷ ask 13 (eqb (length rest) 0) ∷ []) (tt {0})) (ne_eqb (length rest) 1 (λ e. omega arith))
-    ∙ ap (λ (b : Bool). asked (ask 13 b ∷ []) (tt {0})) (ne_eqb (length rest) 0 (λ e. omega arith))
+use Rattle.records.specs.Records.{Refused, rule_marked, row_in, record_questions, at_record, onward, rule_group}
 
 -- a record that was read is whole, and the row is the record's
 pub read_whole : (b : Bool) (x y : Row) → ◌≡◌ {A = Result Row ℕ} (Ok x) (cond b (Ok y) (Err 12)) → (b ≡ true) × (x ≡ y)

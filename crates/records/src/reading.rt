@@ -4,7 +4,7 @@ ghost use Rattle.terms.specs.Refusals.{ask, asked, numbered};
 ghost use Rattle.book.specs.Drafts.{listed, grown};
 ghost use Rattle.records.specs.Records.{rule_marked, row_in, record_questions, at_record, numbered_fault, end_questions, rule_group, group_answer, rules_read, draft_answer, LayoutLaw};
 
-use crate::{Fault, at_record};
+use crate::Fault;
 use book::draft::Draft;
 use terms::refusal::Refusal;
 use terms::row::Row;
@@ -21,23 +21,22 @@ pub struct RuleGroup {
 fn rule_marked(bytes: &[u8]) -> bool
     ensures { result ≡ rule_marked bytes.now }
 {
-    bytes.len() >= 2 && bytes[0] == 0x50 && bytes[1] == 0x52
+    bytes.starts_with(&[0x50, 0x52])
 }
 
 // The row of the rule record at the front of the bytes, if the record is whole.
 fn rule_record(bytes: &[u8]) -> Result<Row, Refusal>
     ensures { numbered result ≡ asked (ask 12 (nat_le 10 (length bytes.now)) ∷ []) (row_in bytes.now) }
 {
-    if bytes.len() < 10 {
+    let [_, _, kind, left, right, count, a, b, c, d, ..] = *bytes else {
         return Err(Refusal::RecordCut);
-    }
-    let features = [bytes[6], bytes[7], bytes[8], bytes[9]];
+    };
     Ok(Row {
-        kind: bytes[2],
-        left: bytes[3],
-        right: bytes[4],
-        count: bytes[5],
-        features,
+        kind,
+        left,
+        right,
+        count,
+        features: [a, b, c, d],
     })
 }
 
@@ -56,17 +55,20 @@ pub fn read_rules(bytes: &[u8]) -> Result<RuleGroup, Fault>
     ensures counted { IfOk result (λ g. g.records ≡ length (listed g.draft)) }
 {
     let mut draft = Draft::new();
-    let mut records = 0;
-    let mut at = 0;
-    while rule_marked(&bytes[at..]) {
-        at_record(take_rule(&bytes[at..], &mut draft), records)?;
-        records += 1;
-        at += 10;
+    for (index, record) in bytes.chunks(10).enumerate() {
+        if !rule_marked(record) {
+            return Ok(RuleGroup {
+                draft,
+                records: index,
+                end: 10 * index,
+            });
+        }
+        take_rule(record, &mut draft).map_err(|refusal| Fault { refusal, index })?;
     }
     Ok(RuleGroup {
         draft,
-        records,
-        end: at,
+        records: bytes.len() / 10,
+        end: bytes.len(),
     })
 }
 
@@ -74,17 +76,12 @@ pub fn read_rules(bytes: &[u8]) -> Result<RuleGroup, Fault>
 pub fn finish(bytes: &[u8], at: usize, index: usize) -> Result<(), Fault>
     ensures { numbered_fault result ≡ at_record index (asked (end_questions (drop at bytes.now)) tt) }
 {
-    match bytes.len().saturating_sub(at) {
-        0 => Ok(()),
-        1 => Err(Fault {
-            refusal: Refusal::RecordCut,
-            index,
-        }),
-        _ => Err(Fault {
-            refusal: Refusal::MarkNotAllowed,
-            index,
-        }),
-    }
+    let refusal = match bytes.len().saturating_sub(at) {
+        0 => return Ok(()),
+        1 => Refusal::RecordCut,
+        _ => Refusal::MarkNotAllowed,
+    };
+    Err(Fault { refusal, index })
 }
 
 // The draft that a file of rule records says, or the first refusal.

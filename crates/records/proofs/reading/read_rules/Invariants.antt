@@ -1,10 +1,8 @@
-use Rattle.std.proofs.Common.{◌-◌, length}
+use Rattle.std.specs.Slice.Iter.{chunks_rest, chunks_size}
 use Rattle.book.specs.Drafts.{listed}
 use Rattle.records.proofs.Turns.{Underway}
 use Rattle.records.proofs.reading.read_rules.Given as goal
 
-abbrev pub invariant-loop-draft : goal.invariant-loop-draft
-invariant-loop-draft l = Underway l.bytes l.at l.records (listed l.draft)
-
-abbrev pub decreases-loop-draft : goal.decreases-loop-draft
-decreases-loop-draft l = length l.bytes - l.at
+abbrev pub invariant-loop-index : goal.invariant-loop-index
+invariant-loop-index l =
+    Underway l.bytes (chunks_size l.index-iterator.iter) (chunks_rest l.index-iterator.iter) l.index-iterator.count (listed l.draft)
