@@ -1,7 +1,7 @@
 -- Records: how a file of rules is laid out, and what reading it gives.
-use Rattle.std.specs.Prelude.{◌≡◌, ℕ, zero, suc, ◌<◌, ◌≤◌, Bool, true, cond, not, ◌&&◌, ◌⊎◌, ◌↔◌, List, [], ◌∷◌, ◌++◌, length, drop, Ok, Err, Result, ◌==◌, nat_le, nat_lt, slice_index}
+use Rattle.std.specs.Prelude.{◌≡◌, ℕ, zero, suc, ◌<◌, ◌≤◌, Bool, true, cond, not, ◌&&◌, ◌⊎◌, ◌↔◌, List, [], ◌∷◌, ◌++◌, length, drop, codes, decimal, Ok, Err, Result, ◌==◌, nat_le, nat_lt, slice_index}
 use Rattle.terms.specs.declared.row.Row.{Row}
-use Rattle.terms.specs.Refusals.{Question, ask, asked, number, FirstNo}
+use Rattle.terms.specs.Refusals.{Question, ask, asked, number, reason, FirstNo}
 use Rattle.terms.specs.Rows.{all_lawful}
 use Rattle.book.specs.Drafts.{listed, rule_questions}
 use Rattle.book.specs.declared.draft.Draft.{Draft}
@@ -43,6 +43,10 @@ at_record k (Err n) = Err (record { number_of = n; index = k })
 abbrev pub numbered_fault : {A : Type 0} → Result A Fault → Result A Refused
 numbered_fault (Ok x) = Ok x
 numbered_fault (Err f) = Err (record { number_of = number f.refusal; index = f.index })
+
+-- "record K: " and the refusal in plain words
+abbrev pub fault_text : Fault → List ℕ
+fault_text f = codes "record " ++ (decimal f.index ++ (codes ": " ++ reason f.refusal))
 
 -- what follows an answer that is not a refusal
 abbrev pub onward : {A B : Type 0} → Result A Refused → (A → Result B Refused) → Result B Refused

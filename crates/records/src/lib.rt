@@ -1,6 +1,11 @@
 // Reading records: bytes into rows, and the number of the record that is refused.
 #![tactic(auto)]
 
+ghost use Rattle.std.specs.Prelude.{Some};
+ghost use Rattle.records.specs.Records.{fault_text};
+
+use std::error::Error;
+use std::fmt;
 use terms::refusal::Refusal;
 
 pub mod reading;
@@ -13,3 +18,14 @@ pub struct Fault {
     pub refusal: Refusal,
     pub index: usize,
 }
+
+// The record, and the refusal in plain words.
+impl fmt::Display for Fault {
+    ghost output = { λ f. Some (fault_text f) };
+
+    fn fmt<W: fmt::Write>(&self, f: &mut fmt::Formatter<W>) -> fmt::Result {
+        write!(f, "record {}: {}", self.index, self.refusal)
+    }
+}
+
+impl Error for Fault {}
