@@ -68,11 +68,7 @@ fn class_too_high(rt: HostRuntime) -> Result<(), Fail> {
 
 // The record again and again, as many bytes as are asked for.
 fn repeated(heap: Global, length: usize) -> Result<Vec<u8>, AllocError> {
-    let mut bytes = Vec::new(heap);
-    for i in 0..length {
-        bytes.push(SUBCLASS[i % 10])?;
-    }
-    Ok(bytes)
+    SUBCLASS.iter().copied().cycle().take(length).collect(heap)
 }
 
 #[test]
