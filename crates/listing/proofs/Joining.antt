@@ -1,33 +1,92 @@
--- Texts written one after another, and a line that is left out where it would be empty.
-use Rattle.std.proofs.Common.{◌≡◌, ℕ, ◌+◌, ◌≤◌, Bool, true, false, cond, eqb, List, [], ◌∷◌, ◌++◌, length, string_bytes, string_len, String, sym, refl, ap, ◌∙◌, append_assoc, append-nil, add-one, arith}
-use Rattle.listing.specs.Lines.{joined_below, line, numbers}
+-- Texts written one after another, and the numbers of a set's classes.
+use Rattle.std.proofs.Common.{◌≡◌, ℕ, zero, suc, ◌+◌, ◌<◌, ◌^◌, Bool, true, false, cond, eqb, List, [], ◌∷◌, ◌++◌, length, decimal, sym, refl, ap, ◌∙◌, inl, inr, add-one, append-nil, arith, Some, None, Option, Ok, Result}
+use Rattle.std.specs.declared.fmt.Formatter.{Formatter}
+use Rattle.std.specs.declared.fmt.Error.{Error}
+use Rattle.std.specs.Fmt.{HasWritten, IsPlainFormatter, DisplaysOnOk, ◌++?◌}
+use Rattle.std.proofs.Output.{has_written_append}
+use Rattle.std.proofs.lemmas.List.{length-append}
+use Rattle.std.proofs.lemmas.Bool.{cases_Bool, cases_eq, cases_lt, eq-eqb, ne_eqb}
+use Rattle.classes.specs.declared.ClassSet.{ClassSet}
+use Rattle.classes.specs.Sets.{has, none, weight}
+use Rattle.classes.proofs.Members.{has_none, has_past, empty_none, extensional}
+use Rattle.listing.specs.Lines.{joined_below, line, number_if, numbers, line_of}
 
--- before the first turn nothing is written
-pub joined_none : (bs : List ℕ) (text : ℕ → List ℕ) → bs ≡ bs ++ joined_below 0 text
+module _ {W : Type 0} (took : W → List ℕ → W → Type 0) where
+  -- before the first turn nothing is written
+  pub written_none : (f : Formatter W) (text : ℕ → List ℕ) → IsPlainFormatter f → HasWritten took f (joined_below 0 text) f
+  unfolding joined_below
+  written_none f text p = record { wrote = record { parts = []; calls = refl; whole = refl }; plain = p }
+
+  -- a turn writes one text more
+  pub written_more : (f g h : Formatter W) (text : ℕ → List ℕ) (n : ℕ) → HasWritten took f (joined_below n text) g → HasWritten took g (text n) h
+      → HasWritten took f (joined_below (n + 1) text) h
+  unfolding joined_below
+  written_more f g h text n before turn = rw add-one (has_written_append took f (joined_below n text) g (text n) h before turn)
+
+-- texts that are the same below n are the same one after another
+pub joined_same : (n : ℕ) (p q : ℕ → List ℕ) → ((k : ℕ) → k < n → p k ≡ q k) → joined_below n p ≡ joined_below n q
 unfolding joined_below
-joined_none bs text = sym (append-nil bs)
+joined_same zero p q same = refl
+joined_same (suc n) p q same =
+    ap (λ (xs : List ℕ). xs ++ p n) (joined_same n p q (λ k l. same k (omega arith))) ∙ ap (λ (xs : List ℕ). joined_below n q ++ xs) (same n (omega arith))
 
--- a turn writes one text more
-pub joined_more : (bs now next : List ℕ) (text : ℕ → List ℕ) (n : ℕ) → now ≡ bs ++ joined_below n text → next ≡ now ++ text n → next ≡ bs ++ joined_below (n + 1) text
+pub numbers_same : (p q : ℕ → Bool) → ((k : ℕ) → k < 64 → p k ≡ q k) → numbers p ≡ numbers q
+numbers_same p q same = joined_same 64 (number_if p) (number_if q) (λ k l. ap (λ (b : Bool). cond b (32 ∷ decimal k) []) (same k l))
+
+pub line_same : (heading : List ℕ) (p q : ℕ → Bool) → ((k : ℕ) → k < 64 → p k ≡ q k) → line heading p ≡ line heading q
+line_same heading p q same = ap (λ (ns : List ℕ). cond (eqb (length ns) 0) [] (heading ++ (ns ++ (10 ∷ [])))) (numbers_same p q same)
+
+-- nothing is written where no text is
+joined_nil : (n : ℕ) (text : ℕ → List ℕ) → length (joined_below n text) ≡ 0 → (k : ℕ) → k < n → length (text k) ≡ 0
 unfolding joined_below
-joined_more bs now next text n before turn = rw add-one (turn ∙ ap (λ (xs : List ℕ). xs ++ text n) before ∙ append_assoc bs (joined_below n text) (text n))
+joined_nil zero text void k l = absurd (omega arith)
+joined_nil (suc n) text void k l =
+    let a = length-append (joined_below n text) (text n) in
+    elim (cases_eq k n) [
+      | inl e ↦ rw e (omega arith)
+      | inr ne ↦ joined_nil n text (omega arith) k (omega arith)
+    ]
 
--- after the last turn, what the turns wrote stands behind what was written before them
-pub joined_all : (start head bs now : List ℕ) (text : ℕ → List ℕ) (n m : ℕ) → n ≤ m → m ≤ n → bs ≡ start ++ head → now ≡ bs ++ joined_below n text → now ≡ start ++ (head ++ joined_below m text)
-joined_all start head bs now text n m below past first turns =
-    let same : n ≡ m = omega arith in
-    turns ∙ rw (first, same) (append_assoc start head (joined_below m text))
+number_nil : (p : ℕ → Bool) (k : ℕ) → length (number_if p k) ≡ 0 → p k ≡ false
+number_nil p k void =
+    elim (cases_Bool (p k)) [
+      | inl kept ↦ let z : length (number_if p k) ≡ suc (length (decimal k)) = ap (λ (b : Bool). length (cond b (32 ∷ decimal k) [])) kept in absurd (omega arith)
+      | inr lacking ↦ lacking
+    ]
 
--- the line of the numbers ns, where b says whether there is none
-line_is : (heading : List ℕ) (p : ℕ → Bool) (ns : List ℕ) (len : ℕ) (b : Bool) → ns ≡ numbers p → len ≡ length ns → b ≡ eqb len 0 → line heading p ≡ cond b [] (heading ++ (ns ++ (10 ∷ [])))
-line_is heading p ns len b is long test = rw (test, long, is) refl
+no_texts : (n : ℕ) → joined_below n (number_if (λ _. false)) ≡ []
+unfolding joined_below
+no_texts zero = refl
+no_texts (suc n) = append-nil (joined_below n (number_if (λ _. false))) ∙ no_texts n
 
-module _ {Z : Type 0} (heading : List ℕ) (p : ℕ → Bool) (ns : String Z) (is : string_bytes ns ≡ numbers p) (before after : List ℕ) where
-  ends : (b : Bool) → b ≡ eqb (string_len ns) 0 → after ≡ before ++ cond b [] (heading ++ (string_bytes ns ++ (10 ∷ []))) → after ≡ before ++ line heading p
-  ends b test wrote = wrote ∙ ap (λ (xs : List ℕ). before ++ xs) (sym (line_is heading p (string_bytes ns) (string_len ns) b is ns.bytes.ok.0 test))
+-- a set without a class has no numbers, and another has some
+pub numbers_none : (s : ClassSet) → weight s < 2 ^ 64 → eqb (length (numbers (has s))) 0 ≡ eqb (weight s) 0
+numbers_none s fits =
+    elim (cases_eq (weight s) 0) [
+      | inl e ↦
+          let z = empty_none s e in
+          let n : length (numbers (has s)) ≡ 0 = ap (λ (x : ClassSet). length (numbers (has x))) z ∙ ap length (numbers_same (has none) (λ _. false) (λ k _. has_none k) ∙ no_texts 64) in
+          eq-eqb (length (numbers (has s))) 0 n ∙ sym (eq-eqb (weight s) 0 e)
+      | inr ne ↦
+          ne_eqb (length (numbers (has s))) 0 (λ e. ne (ap weight (extensional s none fits (omega arith) (lacks e)))) ∙ sym (ne_eqb (weight s) 0 ne)
+    ]
+  where
+    lacks : length (numbers (has s)) ≡ 0 → (k : ℕ) → has s k ≡ has none k
+    lacks e k =
+        elim (cases_lt k 64) [
+          | inl l ↦ number_nil (has s) k (joined_nil 64 (number_if (has s)) e k l) ∙ sym (has_none k)
+          | inr l ↦ has_past s k fits l ∙ sym (has_none k)
+        ]
 
-  pub line_written : false ≡ eqb (string_len ns) 0 → after ≡ before ++ (heading ++ (string_bytes ns ++ (10 ∷ []))) → after ≡ before ++ line heading p
-  line_written = ends false
+-- what a heading and the numbers of a set print
+module _ {W : Type 0} (took : W → List ℕ → W → Type 0) where
+  pub lines_none : (f : Formatter W) (heading : Option (List ℕ)) (p : ℕ → Bool) → true ≡ eqb (length (numbers p)) 0
+      → DisplaysOnOk took f (Ok tt) (line_of heading p) f
+  lines_none f None p e = tt
+  lines_none f (Some heading) p e =
+      rw (← e) (λ plain _. record { wrote = record { parts = []; calls = refl; whole = refl }; plain = plain })
 
-  pub line_left_out : true ≡ eqb (string_len ns) 0 → after ≡ before → after ≡ before ++ line heading p
-  line_left_out none same = ends true none (same ∙ sym (append-nil before))
+  pub lines_some : (f g : Formatter W) (r : Result (Unit {0}) Error) (heading : Option (List ℕ)) (p : ℕ → Bool) → false ≡ eqb (length (numbers p)) 0
+      → DisplaysOnOk took f r (heading ++? Some (numbers p ++ (10 ∷ []))) g → DisplaysOnOk took f r (line_of heading p) g
+  lines_some f g r None p e w = tt
+  lines_some f g r (Some heading) p e w = rw (← e) w

@@ -1,7 +1,7 @@
 -- The lines that show a book's class steps, and the line that says why a record is refused.
 use Rattle.std.specs.Prelude.{ℕ, zero, suc, Bool, cond, not, ◌&&◌, List, [], ◌∷◌, ◌++◌, length, Some, None, codes, decimal, Option, ◌==◌}
 use Rattle.terms.specs.declared.refusal.Refusal.{Refusal}
-use Rattle.terms.specs.declared.refusal.Refusal.TheVariants.{UnknownKind, ClassTooHigh, FeatureTooHigh, WrongFields, DraftFull, NoFreePlace, WorkAreasTooSmall, NotJudged, NotStanding, NotClashing, OutputDoesNotFit, RecordCut, MarkNotAllowed, FactNotNew, InputTooLong}
+use Rattle.terms.specs.Refusals.{reason}
 use Rattle.classes.specs.declared.ClassSet.{ClassSet}
 use Rattle.classes.specs.Sets.{has}
 use Rattle.book.specs.declared.sealed.Book.{Book}
@@ -24,14 +24,18 @@ numbers p = joined_below 64 (number_if p)
 abbrev pub line : List ℕ → (ℕ → Bool) → List ℕ
 line heading p = cond (length (numbers p) == 0) [] (heading ++ (numbers p ++ (10 ∷ [])))
 
--- the classes of a set but the one to skip
-abbrev pub kept : ClassSet → Option ℕ → ℕ → Bool
-kept s None k = has s k
-kept s (Some a) k = has s k && not (k == a)
+-- the same line where the heading may be unknown
+abbrev pub line_of : Option (List ℕ) → (ℕ → Bool) → Option (List ℕ)
+line_of None p = None
+line_of (Some heading) p = Some (line heading p)
+
+-- the classes of a set but one
+abbrev pub kept : ClassSet → ℕ → ℕ → Bool
+kept s A k = has s k && not (k == A)
 
 -- the other classes that class A lies within
 abbrev pub others : Book → ℕ → ℕ → Bool
-others b A B = has (within_set b A) B && not (B == A)
+others b A = kept (within_set b A) A
 
 -- "class A within" and the other classes that A lies within
 abbrev pub within_line : Book → ℕ → List ℕ
@@ -56,24 +60,6 @@ impossible_line s = line (codes "impossible") (has s)
 -- the lines of a book whose impossible classes are those of the set
 abbrev pub all_lines : Book → ClassSet → List ℕ
 all_lines b s = book_lines b ++ impossible_line s
-
--- each refusal in plain words
-abbrev pub reason : Refusal → List ℕ
-reason UnknownKind = codes "the kind is not known"
-reason ClassTooHigh = codes "a class is not below 64"
-reason FeatureTooHigh = codes "a feature in use or a letter is not below 16"
-reason WrongFields = codes "the count does not fit the kind, a feature stands twice, or an unused field is not 0"
-reason DraftFull = codes "the draft has no free row"
-reason NoFreePlace = codes "no place is free"
-reason WorkAreasTooSmall = codes "the work areas are smaller than 4096 pairs and 256 part numbers"
-reason NotJudged = codes "the sheet is not judged"
-reason NotStanding = codes "the judging did not find that the book stands"
-reason NotClashing = codes "the judging did not find a clash"
-reason OutputDoesNotFit = codes "the place is past the buffer's end or the output does not fit"
-reason RecordCut = codes "the record is not whole"
-reason MarkNotAllowed = codes "the mark is not allowed here"
-reason FactNotNew = codes "the factory fact is not new"
-reason InputTooLong = codes "the input is not shorter than 32768 bytes"
 
 -- "record K: " and the reason
 abbrev pub refusal_line : Refusal → ℕ → List ℕ
