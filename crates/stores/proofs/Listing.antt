@@ -1,10 +1,11 @@
 -- Lists of facts: what stands at a place, and whether a fact is listed.
-use Rattle.std.proofs.Common.{◌≡◌, ℕ, zero, suc, ◌+◌, ◌-◌, ◌<◌, ◌≤◌, Bool, true, false, ◌||◌, eqb, ◌⊎◌, List, [], ◌∷◌, ◌++◌, length, get_or, take, drop, Some, None, sym, refl, ap, ◌∙◌, subst, inl, inr, arith}
+use Rattle.std.proofs.Common.{◌≡◌, ℕ, zero, suc, ◌+◌, ◌-◌, ◌<◌, ◌≤◌, Bool, true, false, ◌||◌, eqb, ◌⊎◌, List, [], ◌∷◌, ◌++◌, length, get_or, take, drop, Some, None, sym, refl, ap, ◌∙◌, subst, inl, inr, MatchBool, arith}
 use mathlib.Core.List.Memᴰ
-use Rattle.std.specs.List.{slice_get}
+use Rattle.std.specs.List.{slice_get, range_with_len, HoldsAt, AllWithin}
 use Rattle.std.proofs.lemmas.Option.{slice_get-get_or, slice_get_past}
 use Rattle.std.proofs.lemmas.List.{get_or-take, length-take-le, at_drop_all}
-use Rattle.std.proofs.lemmas.Bool.{and_parts, and_from, or_cases, or_left, or_right, eqb-true, eq-eqb}
+use Rattle.std.proofs.lemmas.List.FromFn.{length-range_with_len, get_or-range_with_len}
+use Rattle.std.proofs.lemmas.Bool.{and_parts, and_from, cases_Bool, or_cases, or_left, or_right, eqb-true, eq-eqb}
 use Rattle.terms.specs.declared.fact.Fact.{Fact}
 use Rattle.terms.specs.Lawful.{same_fact}
 use Rattle.terms.specs.Worlds.{◌∈◌}
@@ -117,3 +118,19 @@ listed_row n i rows d f l h = listed_on (take n rows) i (get_or rows i d) f (sym
 
 pub listed_rows : (n i : ℕ) (rows : List Fact) (f : Fact) → n ≤ i → n ≤ length rows → listed (drop i (take n rows)) f ≡ false
 listed_rows n i rows f l h = listed_past (take n rows) i f (rw length-take-le l)
+
+-- a scan of all places
+pub listed_scan : (facts : List Fact) (f : Fact) (n : ℕ) (r : Bool) → n ≡ length facts
+    → MatchBool r ((k : ℕ) × (k < length (range_with_len 0 n)) × HoldsAt (λ i. slice_get facts i ≡ Some f) (range_with_len 0 n) k)
+    (AllWithin (λ i. ¬ (slice_get facts i ≡ Some f)) (range_with_len 0 n) 0 (length (range_with_len 0 n)))
+    → r ≡ listed facts f
+listed_scan facts f n true e h = sym (in_listed facts f (nth_in facts _ f (h.2 0)))
+listed_scan facts f n false e h =
+    elim (cases_Bool (listed facts f)) [
+      | inl l ↦
+          let p = in_nth facts f (listed_in facts f l) in
+          let b = nth_below facts p.0 f p.1 in
+          let at : get_or (range_with_len 0 n) p.0 0 ≡ p.0 = get_or-range_with_len 0 n p.0 0 (omega arith) ∙ omega arith in
+          absurd (h p.0 0 (omega arith) (rw length-range_with_len (omega arith)) (ap (slice_get facts) at ∙ p.1))
+      | inr l ↦ sym l
+    ]
