@@ -36,7 +36,8 @@ impl<S: Store> Additions<S> {
     pub fn into_below(self) -> S
         ensures { result ≡ self.below }
     {
-        self.below
+        let Additions { below, own: _ } = self;
+        below
     }
 
     fn lists(&self, fact: Fact) -> bool
