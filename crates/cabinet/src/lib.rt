@@ -1,57 +1,48 @@
 // The log of a control cabinet: a store of a buyer's own make.
 #![tactic(auto)]
 
-ghost use Rattle.std.specs.Prelude.{◌≡◌, [], ◌++◌, replicate};
-ghost use Rattle.stores.specs.Meaning.{listed, Tells, places_used};
-ghost use Rattle.cabinet.specs.Logs.{in_use, next_entry, log_facts, log_room, LogValid};
+ghost use Rattle.std.specs.Prelude.{◌≡◌};
+ghost use Rattle.cabinet.specs.Entries.{LogValid};
 
+use arrayvec::ArrayVec;
 use stores::store::Store;
-use stores::told::Told;
+use stores::told::{Told, answer};
 use terms::fact::Fact;
 use terms::refusal::Refusal;
 
 pub mod shift;
 
 // One entry: 16 bytes. The stamp is the cabinet's clock when the fact was told, the panel that of the log.
-#[derive(Clone, Copy)]
+#[derive(Clone, Copy, Default)]
 pub struct Entry {
     pub stamp: u64,
     pub fact: Fact,
     pub panel: u32,
 }
 
-// The first `used` entries are in use.
+// The entries in use, of at most 32.
 #[derive(Drop)]
 pub struct Cabinet {
-    entries: [Entry; 32],
-    used: usize,
+    entries: ArrayVec<Entry, 32>,
     clock: u64,
     panel: u32,
+    ghost valid: { LogValid entries.items },
 }
 
 impl Cabinet {
+    ghost use Rattle.std.specs.Prelude.{[]};
+    ghost use Rattle.stores.specs.Meaning.{listed};
+    ghost use Rattle.cabinet.specs.Logs.{in_use, log_facts, log_room};
+
     // A log of a panel with no entry in use, and its clock at 0.
     pub fn open(panel: u32) -> Cabinet
-        ensures valid { LogValid result }
         ensures empty { log_facts result ≡ [] }
         ensures room { log_room result ≡ 32 }
         ensures clock { result.clock ≡ 0 }
         ensures panel { result.panel ≡ panel }
     {
-        let fact = Fact {
-            kind: 0,
-            first: 0,
-            second: 0,
-            third: 0,
-        };
-        let blank = Entry {
-            stamp: 0,
-            fact,
-            panel,
-        };
         Cabinet {
-            entries: [blank; 32],
-            used: 0,
+            entries: ArrayVec::new(),
             clock: 0,
             panel,
         }
@@ -59,8 +50,6 @@ impl Cabinet {
 
     // Sets the clock that stamps the entries to come.
     pub fn set_clock(&mut self, clock: u64)
-        requires { LogValid self.old }
-        ensures valid { LogValid self.new }
         ensures same { in_use self.new ≡ in_use self.old }
         ensures clock { self.new.clock ≡ clock }
         ensures panel { self.new.panel ≡ self.old.panel }
@@ -70,74 +59,59 @@ impl Cabinet {
 
     // The entries in use, for a reader who wants the stamps too.
     pub fn entries(&self) -> &[Entry]
-        requires { LogValid self.now }
         ensures { result.now ≡ in_use self.now }
     {
-        &self.entries[0..self.used]
+        &self.entries
     }
 
     fn lists(&self, fact: Fact) -> bool
-        requires { LogValid self.now }
         ensures { result ≡ listed (log_facts self.now) fact }
     {
-        for place in 0..self.used {
-            if self.entries[place].fact.same(fact) {
-                return true;
-            }
-        }
-        false
+        self.entries.iter().any(|entry| entry.fact == fact)
     }
 }
 
 impl Store for Cabinet {
+    ghost use Rattle.std.specs.Prelude.{◌++◌, replicate};
+    ghost use Rattle.stores.specs.Meaning.{Tells, places_used};
+    ghost use Rattle.cabinet.specs.Logs.{in_use, log_facts, log_room, next_entry};
+
     ghost facts = { log_facts };
 
     ghost room = { log_room };
 
-    ghost valid = { LogValid };
+    ghost valid = { λ _. Unit {0} };
 
-    ghost means = { λ s v. v.means };
+    ghost means = { λ s _. s.valid };
 
     fn count(&self) -> usize {
-        self.used
+        self.entries.len()
     }
 
     fn free(&self) -> usize {
-        32 - self.used
+        self.entries.remaining_capacity()
     }
 
     fn at(&self, place: usize) -> Option<Fact> {
-        if place < self.used {
-            Some(self.entries[place].fact)
-        } else {
-            None
-        }
+        self.entries.get(place).map(|entry| entry.fact)
     }
 
     // The clauses of the interface, and two of its own: which entry is written, and that clock and panel stay.
     fn tell(&mut self, fact: Fact) -> Result<Told, Refusal>
-        requires { LogValid self.old }
-        ensures stays { LogValid self.new }
         ensures tells { Tells (log_facts self.old) (log_room self.old) fact result (log_facts self.new) (log_room self.new) }
         ensures unchanged { places_used result ≡ 0 → self.new ≡ self.old }
         ensures written { in_use self.new ≡ in_use self.old ++ replicate (places_used result) (next_entry self.old fact) }
         ensures kept { (self.new.clock ≡ self.old.clock) × (self.new.panel ≡ self.old.panel) }
     {
-        fact.check()?;
-        if self.lists(fact) {
-            return Ok(Told::Already);
+        let told = answer(fact, self.lists(fact), self.free());
+        if told == Ok(Told::Added) {
+            self.entries.push(Entry {
+                stamp: self.clock,
+                fact,
+                panel: self.panel,
+            });
         }
-        if self.used == 32 {
-            return Err(Refusal::NoFreePlace);
-        }
-        let row = self.used;
-        self.entries[row] = Entry {
-            stamp: self.clock,
-            fact,
-            panel: self.panel,
-        };
-        self.used = row + 1;
-        Ok(Told::Added)
+        told
     }
 }
 

@@ -2,7 +2,7 @@
 ghost use Rattle.std.specs.Prelude.{◌≡◌, ◌++◌, length, replicate};
 ghost use Rattle.stores.specs.Meaning.{listed, Tells, TellLaw, places_used};
 ghost use Rattle.stores.specs.Piles.{pile_facts, pile_room, free_over, PileValid};
-ghost use Rattle.cabinet.specs.Logs.{log_facts, log_room, LogValid};
+ghost use Rattle.cabinet.specs.Logs.{log_facts, log_room};
 
 use crate::Cabinet;
 use stores::additions::Additions;
@@ -14,7 +14,6 @@ use terms::refusal::Refusal;
 
 // Is the fact in the log's list?
 pub fn knows(log: &Cabinet, fact: Fact) -> bool
-    requires { LogValid log.now }
     ensures { result ≡ listed (log_facts log.now) fact }
 {
     lists(log, fact)
@@ -22,17 +21,14 @@ pub fn knows(log: &Cabinet, fact: Fact) -> bool
 
 // Tells the log a fact by the call for stores of any make, which has the law of tell.
 pub fn note(log: &mut Cabinet, fact: Fact) -> Result<Told, Refusal>
-    requires { LogValid log.old }
-    ensures valid { LogValid log.new }
-    ensures law { TellLaw (log_facts log.old) (log_room log.old) fact result (log_facts log.new) (log_room log.new) }
+    ensures { TellLaw (log_facts log.old) (log_room log.old) fact result (log_facts log.new) (log_room log.new) }
 {
     tell(log, fact)
 }
 
 // Begins a shift over the log with one fact: what was told, and the pile.
 pub fn begin(log: Cabinet, fact: Fact) -> (Result<Told, Refusal>, Additions<Cabinet>)
-    requires { LogValid log }
-    ensures valid { PileValid log_facts LogValid result.1 }
+    ensures valid { PileValid log_facts (λ _. Unit {0}) result.1 }
     ensures tells { Tells (log_facts log) (free_over 0 (length (log_facts log))) fact result.0 (pile_facts log_facts result.1) (pile_room log_facts result.1) }
     ensures list { pile_facts log_facts result.1 ≡ log_facts log ++ replicate (places_used result.0) fact }
     ensures lower { result.1.below ≡ log }
@@ -44,7 +40,7 @@ pub fn begin(log: Cabinet, fact: Fact) -> (Result<Told, Refusal>, Additions<Cabi
 
 // Tells the pile a fact more, and hands the log back as it was before the shift.
 pub fn end(pile: Additions<Cabinet>, fact: Fact) -> Cabinet
-    requires { PileValid log_facts LogValid pile }
+    requires { PileValid log_facts (λ _. Unit {0}) pile }
     ensures { result ≡ pile.below }
 {
     let mut pile = pile;

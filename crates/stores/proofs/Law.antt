@@ -112,3 +112,18 @@ module _ (facts : List Fact) (free : ℕ) (f : Fact) (r : Result Told Refusal) (
     where
       unlisted : ¬ (f ∈ facts) → listed facts f ≡ false
       unlisted n = elim (cases_Bool (listed facts f)) [ inl h ↦ absurd (n (listed_in facts f h)) | inr h ↦ h ]
+
+  -- every call of tell keeps the meaning
+  pub means_told : Meaning facts' free'
+  means_told = by r refl
+    where
+      kept_by : places_used r ≡ 0 → Meaning facts' free'
+      kept_by u = let k = kept u in rw (k.0, k.1) m
+
+      by : (s : Result Told Refusal) → r ≡ s → Meaning facts' free'
+      by (Ok Added) e =
+          let k = grown_by e in
+          let less : free' ≡ free - 1 = (let h = k.1 in omega arith) in
+          rw (k.0, less) (means_more facts free f m (yes_lawful f (yes Added e).lawful) (was_not e) (was_free e))
+      by (Ok Already) e = kept_by (ap places_used e)
+      by (Err x) e = kept_by (ap places_used e)

@@ -2,4 +2,3 @@ pub mod Listing
 pub mod Keeping
 pub mod Law
 mod Rowing
-mod Piling

@@ -1,6 +1,6 @@
 -- What every store means: a list of different lawful facts and a number of free places; and what telling it a fact does.
-use Rattle.std.specs.Prelude.{◌≡◌, ℕ, ◌+◌, ◌-◌, ◌<◌, ◌≤◌, Bool, true, false, cond, ◌||◌, ◌↔◌, List, [], ◌∷◌, ◌++◌, length, replicate, Some, Ok, Err, codes, Result, nat_lt}
-use Rattle.std.specs.List.{slice_get}
+use Rattle.std.specs.Prelude.{◌≡◌, ℕ, ◌+◌, ◌-◌, ◌<◌, ◌≤◌, Bool, true, cond, ◌||◌, ◌↔◌, List, [], ◌∷◌, ◌++◌, length, replicate, Some, Ok, Err, codes, Result, nat_lt}
+use Rattle.std.specs.List.{slice_get, list_any}
 use Rattle.terms.specs.declared.fact.Fact.{Fact}
 use Rattle.terms.specs.declared.refusal.Refusal.{Refusal}
 use Rattle.terms.specs.Refusals.{Question, ask, asked, numbered, FirstNo}
@@ -22,8 +22,7 @@ pub record Meaning (facts : List Fact) (free : ℕ) : Type 0 where
 
 -- is the fact in the list?
 abbrev pub listed : List Fact → Fact → Bool
-listed [] f = false
-listed (g ∷ facts) f = same_fact g f || listed facts f
+listed facts f = list_any (λ g. same_fact g f) facts
 
 -- an answer by which a fact is accepted: its word for people, and how many free places it uses
 pub record Saying : Type 0 where
@@ -37,12 +36,19 @@ saying Added = record { word = codes "added"; places = 1 }
 saying Already = record { word = codes "already"; places = 0 }
 
 -- the questions of tell, in their order: those of the fact, then whether it is listed already or a place is free
-abbrev pub tell_questions : List Fact → ℕ → Fact → List Question
-tell_questions facts free f = fact_questions f ++ (ask 6 (listed facts f || nat_lt 0 free) ∷ [])
+abbrev pub answer_questions : Bool → ℕ → Fact → List Question
+answer_questions is_listed free f = fact_questions f ++ (ask 6 (is_listed || nat_lt 0 free) ∷ [])
 
 -- the answer by which a fact is accepted
+abbrev pub answer_accepted : Bool → Told
+answer_accepted is_listed = cond is_listed Already Added
+
+-- both of a list of facts
+abbrev pub tell_questions : List Fact → ℕ → Fact → List Question
+tell_questions facts free f = answer_questions (listed facts f) free f
+
 abbrev pub accepted_as : List Fact → Fact → Told
-accepted_as facts f = cond (listed facts f) Already Added
+accepted_as facts f = answer_accepted (listed facts f)
 
 -- how many free places an answer uses; a refusal uses none
 abbrev pub places_used : Result Told Refusal → ℕ

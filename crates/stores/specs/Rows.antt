@@ -1,18 +1,13 @@
--- The row store: the facts and free places of a table of rows.
-use Rattle.std.specs.Prelude.{ℕ, ◌-◌, ◌≤◌, min, List, length, take}
+-- The row store: the facts and free places of its table of rows.
+use Rattle.std.specs.Prelude.{ℕ, List}
 use Rattle.terms.specs.declared.fact.Fact.{Fact}
 use Rattle.stores.specs.declared.row.RowStore.{RowStore}
-use Rattle.stores.specs.Meaning.{Meaning}
+use Rattle.stores.specs.Tables.{table_facts, table_room}
 
 -- the rows in use, from the first on
 abbrev pub row_facts : RowStore → List Fact
-row_facts s = take s.used s.rows.now
+row_facts s = table_facts s.rows.now s.used
 
 -- one free place a row that is not in use, up to 65,536 rows
 abbrev pub row_room : RowStore → ℕ
-row_room s = min (length s.rows.now) 65536 - s.used
-
--- the states of a row store
-pub record RowsValid (s : RowStore) : Type 0 where
-  pub within : s.used ≤ length s.rows.now
-  pub means : Meaning (row_facts s) (row_room s)
+row_room s = table_room s.rows.now s.used

@@ -1,12 +1,12 @@
 // The additions store: takes over any store and adds up to 64 facts.
-ghost use Rattle.std.specs.Prelude.{◌≡◌, ◌≤◌, length};
+ghost use Rattle.std.specs.Prelude.{◌≡◌, length};
 ghost use Rattle.stores.specs.Meaning.{listed, Tells, places_used};
 ghost use Rattle.stores.specs.Piles.{pile_facts, pile_room, free_over, PileValid};
 
 use crate::calls::lists;
-use crate::row::{among, put};
 use crate::store::Store;
-use crate::told::Told;
+use crate::told::{Told, answer};
+use arrayvec::ArrayVec;
 use terms::fact::Fact;
 use terms::refusal::Refusal;
 
@@ -14,8 +14,7 @@ use terms::refusal::Refusal;
 #[derive(Drop)]
 pub struct Additions<S> {
     below: S,
-    own: [Fact; 64],
-    used: usize,
+    own: ArrayVec<Fact, 64>,
 }
 
 impl<S: Store> Additions<S> {
@@ -27,16 +26,9 @@ impl<S: Store> Additions<S> {
         ensures room { pile_room S.Store.facts result ≡ free_over 0 (length (S.Store.facts below)) }
         ensures lower { result.below ≡ below }
     {
-        let blank = Fact {
-            kind: 0,
-            first: 0,
-            second: 0,
-            third: 0,
-        };
         Additions {
             below,
-            own: [blank; 64],
-            used: 0,
+            own: ArrayVec::new(),
         }
     }
 
@@ -44,19 +36,15 @@ impl<S: Store> Additions<S> {
     pub fn into_below(self) -> S
         ensures { result ≡ self.below }
     {
-        let Additions {
-            below,
-            own: _,
-            used: _,
-        } = self;
+        let Additions { below, own: _ } = self;
         below
     }
 
     fn lists(&self, fact: Fact) -> bool
-        requires { PileValid S.Store.facts S.Store.valid self.now }
+        requires { S.Store.valid self.now.below }
         ensures { result ≡ listed (pile_facts S.Store.facts self.now) fact }
     {
-        lists(&self.below, fact) || among(&self.own, self.used, fact)
+        lists(&self.below, fact) || self.own.contains(&fact)
     }
 }
 
@@ -70,22 +58,19 @@ impl<S: Store> Store for Additions<S> {
     ghost means = { λ s v. v.means };
 
     fn count(&self) -> usize {
-        self.below.count() + self.used
+        self.below.count() + self.own.len()
     }
 
     fn free(&self) -> usize {
-        (64 - self.used).min(65536 - self.count())
+        self.own.remaining_capacity().min(65536 - self.count())
     }
 
     fn at(&self, place: usize) -> Option<Fact> {
         let lower = self.below.count();
         if place < lower {
-            return self.below.at(place);
-        }
-        if place - lower < self.used {
-            Some(self.own[place - lower])
+            self.below.at(place)
         } else {
-            None
+            self.own.get(place - lower).copied()
         }
     }
 
@@ -97,16 +82,10 @@ impl<S: Store> Store for Additions<S> {
         ensures unchanged { places_used result ≡ 0 → self.new ≡ self.old }
         ensures lower { self.new.below ≡ self.old.below }
     {
-        fact.check()?;
-        if self.lists(fact) {
-            return Ok(Told::Already);
+        let told = answer(fact, self.lists(fact), self.free());
+        if told == Ok(Told::Added) {
+            self.own.push(fact);
         }
-        if self.free() == 0 {
-            return Err(Refusal::NoFreePlace);
-        }
-        let row = self.used;
-        put(&mut self.own, row, fact);
-        self.used = row + 1;
-        Ok(Told::Added)
+        told
     }
 }

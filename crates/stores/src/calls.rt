@@ -12,14 +12,7 @@ pub fn lists<S: Store>(store: &S, fact: Fact) -> bool
     requires { S.Store.valid store.now }
     ensures { result ≡ listed (S.Store.facts store.now) fact }
 {
-    for place in 0..store.count() {
-        if let Some(other) = store.at(place) {
-            if other.same(fact) {
-                return true;
-            }
-        }
-    }
-    false
+    (0..store.count()).any(|place| store.at(place) == Some(fact))
 }
 
 // Tells a store of any make a fact: what is accepted is then listed, at its place, once, and nothing else has changed.

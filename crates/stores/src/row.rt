@@ -1,18 +1,18 @@
 // The row store: facts in a table of rows that the caller lends.
-ghost use Rattle.std.specs.Prelude.{◌≡◌, ◌<◌, ◌≤◌, min, [], ◌++◌, length, take, drop, slice_set};
-ghost use Rattle.stores.specs.Meaning.{listed, Tells, places_used};
-ghost use Rattle.stores.specs.Rows.{row_facts, row_room, RowsValid};
+ghost use Rattle.std.specs.Prelude.{◌≡◌, ◌<◌, length, slice_set};
+ghost use Rattle.stores.specs.Tables.{RowsValid};
 
 use crate::store::Store;
-use crate::told::Told;
+use crate::told::{Told, answer};
 use terms::fact::Fact;
 use terms::refusal::Refusal;
 
-// The first `used` rows of the table are the list.
+// The first `used` rows of the table are the list. The table is the caller's own, of any length, so it is no ArrayVec.
 #[derive(Drop)]
 pub struct RowStore<'a> {
     rows: &'a mut [Fact],
     used: usize,
+    ghost valid: { RowsValid rows.now used },
 }
 
 // Writes a fact into its row.
@@ -23,23 +23,13 @@ pub(crate) fn put(rows: &mut [Fact], row: usize, fact: Fact)
     rows[row] = fact;
 }
 
-// Is the fact among the first rows?
-pub(crate) fn among(rows: &[Fact], used: usize, fact: Fact) -> bool
-    requires { used ≤ length rows.now }
-    ensures { result ≡ listed (take used rows.now) fact }
-{
-    for row in 0..used {
-        if rows[row].same(fact) {
-            return true;
-        }
-    }
-    false
-}
-
 impl<'a> RowStore<'a> {
+    ghost use Rattle.std.specs.Prelude.{min, []};
+    ghost use Rattle.stores.specs.Meaning.{listed};
+    ghost use Rattle.stores.specs.Rows.{row_facts, row_room};
+
     // A store that lists nothing, whatever the table holds; each row is a free place, up to 65,536.
     pub fn open(rows: &'a mut [Fact]) -> RowStore<'a>
-        ensures valid { RowsValid result }
         ensures empty { row_facts result ≡ [] }
         ensures room { row_room result ≡ min (length rows.old) 65536 }
         ensures lent { result.rows.ghost_name ≡ rows.entry.ghost_name }
@@ -49,68 +39,50 @@ impl<'a> RowStore<'a> {
     }
 
     fn lists(&self, fact: Fact) -> bool
-        requires { self.now.used ≤ length self.now.rows.now }
         ensures { result ≡ listed (row_facts self.now) fact }
     {
-        among(self.rows, self.used, fact)
-    }
-
-    fn places(&self) -> usize
-        requires { RowsValid self.now }
-        ensures { result ≡ row_room self.now }
-    {
-        self.rows.len().min(65536) - self.used
-    }
-
-    // Tells a fact. The table holds the list in front, and past it what it held before.
-    pub fn tell(&mut self, fact: Fact) -> Result<Told, Refusal>
-        requires { RowsValid self.old }
-        ensures stays { RowsValid self.new }
-        ensures tells { Tells (row_facts self.old) (row_room self.old) fact result (row_facts self.new) (row_room self.new) }
-        ensures unchanged { places_used result ≡ 0 → self.new ≡ self.old }
-        ensures lent { self.new.rows.ghost_name ≡ self.old.rows.ghost_name }
-        ensures table { self.new.rows.now ≡ row_facts self.new ++ drop self.new.used self.old.rows.now }
-    {
-        fact.check()?;
-        if self.lists(fact) {
-            return Ok(Told::Already);
-        }
-        if self.places() == 0 {
-            return Err(Refusal::NoFreePlace);
-        }
-        let row = self.used;
-        put(self.rows, row, fact);
-        self.used = row + 1;
-        Ok(Told::Added)
+        self.rows[..self.used].contains(&fact)
     }
 }
 
 impl<'a> Store for RowStore<'a> {
+    ghost use Rattle.std.specs.Prelude.{◌++◌, drop};
+    ghost use Rattle.stores.specs.Meaning.{Tells, places_used};
+    ghost use Rattle.stores.specs.Rows.{row_facts, row_room};
+
     ghost facts = { row_facts };
 
     ghost room = { row_room };
 
-    ghost valid = { RowsValid };
+    ghost valid = { λ _. Unit {0} };
 
-    ghost means = { λ s v. v.means };
+    ghost means = { λ s _. s.valid.means };
 
     fn count(&self) -> usize {
         self.used
     }
 
     fn free(&self) -> usize {
-        self.places()
+        self.rows.len().min(65536) - self.used
     }
 
     fn at(&self, place: usize) -> Option<Fact> {
-        if place < self.used {
-            Some(self.rows[place])
-        } else {
-            None
-        }
+        self.rows[..self.used].get(place).copied()
     }
 
-    fn tell(&mut self, fact: Fact) -> Result<Told, Refusal> {
-        RowStore::tell(self, fact)
+    // The clauses of the interface, and two of its own: the table stays lent, and holds the list in front and past it
+    // what it held before.
+    fn tell(&mut self, fact: Fact) -> Result<Told, Refusal>
+        ensures tells { Tells (row_facts self.old) (row_room self.old) fact result (row_facts self.new) (row_room self.new) }
+        ensures unchanged { places_used result ≡ 0 → self.new ≡ self.old }
+        ensures lent { self.new.rows.ghost_name ≡ self.old.rows.ghost_name }
+        ensures table { self.new.rows.now ≡ row_facts self.new ++ drop self.new.used self.old.rows.now }
+    {
+        let told = answer(fact, self.lists(fact), self.free());
+        if told == Ok(Told::Added) {
+            put(self.rows, self.used, fact);
+            self.used += 1;
+        }
+        told
     }
 }

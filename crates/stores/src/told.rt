@@ -1,6 +1,11 @@
-// How a fact was accepted.
-ghost use Rattle.std.specs.Prelude.{◌≡◌};
-ghost use Rattle.stores.specs.Meaning.{saying};
+// How a fact was accepted, and what a store answers to a fact.
+ghost use Rattle.std.specs.Prelude.{◌≡◌, ◌<◌, Some, Ok};
+ghost use Rattle.terms.specs.Refusals.{asked, numbered};
+ghost use Rattle.stores.specs.Meaning.{saying, answer_questions, answer_accepted};
+
+use std::fmt;
+use terms::fact::Fact;
+use terms::refusal::Refusal;
 
 // The fact was put at the list's end, or was listed already.
 #[derive(Clone, Copy, PartialEq, Eq, Debug)]
@@ -19,4 +24,28 @@ impl Told {
             Told::Already => "already",
         }
     }
+}
+
+impl fmt::Display for Told {
+    ghost output = { λ t. Some ((saying t).word) };
+
+    fn fmt<W: fmt::Write>(&self, f: &mut fmt::Formatter<W>) -> fmt::Result {
+        f.write_str(self.word())
+    }
+}
+
+// What a store answers to a fact, by whether it lists the fact and how many places are free. A make's own `tell` asks it,
+// and writes the fact where the answer is `Added`.
+pub fn answer(fact: Fact, listed: bool, free: usize) -> Result<Told, Refusal>
+    ensures answer { numbered result ≡ asked (answer_questions listed free fact) (answer_accepted listed) }
+    ensures place { result ≡ Ok Told.Added → 0 < free }
+{
+    fact.check()?;
+    if listed {
+        return Ok(Told::Already);
+    }
+    if free == 0 {
+        return Err(Refusal::NoFreePlace);
+    }
+    Ok(Told::Added)
 }
