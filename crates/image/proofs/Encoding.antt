@@ -1,13 +1,14 @@
 -- Records and the bytes that encode them; the sound part is the longest front part of its kind.
-use Rattle.std.proofs.Common.{◌≡◌, ℕ, zero, suc, ◌+◌, ◌*◌, ◌/◌, ◌<◌, ◌≤◌, true, false, not, ◌&&◌, eqb, ◌⊎◌, List, [], ◌∷◌, ◌++◌, length, get_or, take, Some, Option, sym, refl, ap, ◌∙◌, subst, inl, inr, arith}
+use Rattle.std.proofs.Common.{◌≡◌, ℕ, zero, suc, ◌+◌, ◌*◌, ◌/◌, ◌<◌, ◌≤◌, true, false, eqb, ◌⊎◌, List, [], ◌∷◌, ◌++◌, length, take, drop, Some, Option, sym, refl, ap, ◌∙◌, subst, inl, inr, arith}
 use Rattle.std.specs.List.{slice_get}
-use Rattle.std.proofs.lemmas.List.{length-append, length-take-le, take_more, append_assoc, append-nil}
+use Rattle.std.proofs.lemmas.List.{length-append, length-take-le, length-drop}
+use Rattle.std.proofs.Math.Seq.{take-add}
 use Rattle.std.proofs.lemmas.Bool.{and_parts, and_from, eqb-true, cases_Bool, not_from_false}
 use Rattle.terms.specs.declared.fact.Fact.{Fact}
 use Rattle.terms.specs.Lawful.{lawful_fact}
 use Rattle.stores.specs.Meaning.{Meaning, listed}
 use Rattle.stores.proofs.Listing.{nth_in, in_nth, listed_in, nth_below}
-use Rattle.image.specs.Layout.{encoded_fact, encoded_facts, LongestSound, fact_at, facts_in, marked_at, good_at, sound_count, sound_part, sound_facts}
+use Rattle.image.specs.Layout.{encoded_fact, encoded_facts, LongestSound, fact_of, marked, good, record_at, fact_at, facts_in, good_at, sound_count, sound_part, sound_facts}
 use Rattle.image.proofs.Reading.{facts_length, facts_nth, facts_front}
 use Rattle.image.proofs.Counting.{count_fits, count_good, count_longest, sound_means}
 
@@ -19,71 +20,44 @@ encoded_more : (facts : List Fact) (f : Fact) → encoded_facts (facts ++ f ∷ 
 encoded_more [] f = refl
 encoded_more (g ∷ facts) f = ap (λ (x : List ℕ). encoded_fact g ++ x) (encoded_more facts f)
 
--- six more bytes of a front part
-take_six : (bytes : List ℕ) (k : ℕ) → k + 6 ≤ length bytes
-    → take (k + 6) bytes ≡ take k bytes ++ (get_or bytes (k + 0) 0 ∷ get_or bytes (k + 1) 0 ∷ get_or bytes (k + 2) 0 ∷ get_or bytes (k + 3) 0 ∷ get_or bytes (k + 4) 0 ∷ get_or bytes (k + 5) 0 ∷ [])
-take_six bytes k h =
-    let b : ℕ → ℕ = λ j. get_or bytes (k + j) 0 in
-    last 5 (b 0 ∷ b 1 ∷ b 2 ∷ b 3 ∷ b 4 ∷ []) (omega arith)
-    (last 4 (b 0 ∷ b 1 ∷ b 2 ∷ b 3 ∷ []) (omega arith)
-    (last 3 (b 0 ∷ b 1 ∷ b 2 ∷ []) (omega arith)
-    (last 2 (b 0 ∷ b 1 ∷ []) (omega arith)
-    (last 1 (b 0 ∷ []) (omega arith)
-    (last 0 [] (omega arith) (ap (λ (n : ℕ). take n bytes) (omega arith) ∙ sym (append-nil (take k bytes))))))))
-  where
-    last : (j : ℕ) (before : List ℕ) → k + j < length bytes → take (k + j) bytes ≡ take k bytes ++ before
-        → take (k + (j + 1)) bytes ≡ take k bytes ++ (before ++ get_or bytes (k + j) 0 ∷ [])
-    last j before l e =
-        let n : k + (j + 1) ≡ k + j + 1 = omega arith in
-        ap (λ (m : ℕ). take m bytes) n ∙ take_more bytes (k + j) 0 l
-        ∙ ap (λ (z : List ℕ). z ++ get_or bytes (k + j) 0 ∷ []) e ∙ append_assoc (take k bytes) before (get_or bytes (k + j) 0 ∷ [])
-
--- records whose marks stand are the bytes that encode their facts
-marks : (bytes : List ℕ) (i : ℕ) → good_at bytes i ≡ true → (get_or bytes (6 * i) 0 ≡ 80) × (get_or bytes (6 * i + 1) 0 ≡ 70)
-marks bytes i g =
-    let p = and_parts (marked_at bytes i) _ g in
-    let q = and_parts (eqb (get_or bytes (6 * i) 0) 80) _ p.0 in
-    (eqb-true (get_or bytes (6 * i) 0) 80 q.0, eqb-true (get_or bytes (6 * i + 1) 0) 70 q.1)
+-- a marked record is the encoding of its fact
+record_encodes : (r : List ℕ) → length r ≡ 6 → marked r ≡ true → r ≡ encoded_fact (fact_of r)
+record_encodes [] l m = absurd (omega arith)
+record_encodes (a ∷ []) l m = absurd (omega arith)
+record_encodes (a ∷ b ∷ []) l m = absurd (omega arith)
+record_encodes (a ∷ b ∷ c ∷ []) l m = absurd (omega arith)
+record_encodes (a ∷ b ∷ c ∷ d ∷ []) l m = absurd (omega arith)
+record_encodes (a ∷ b ∷ c ∷ d ∷ e ∷ []) l m = absurd (omega arith)
+record_encodes (a ∷ b ∷ c ∷ d ∷ e ∷ f ∷ []) l m =
+    let q = and_parts (eqb a 80) (eqb b 70) m in
+    ap (λ (x : ℕ). x ∷ b ∷ c ∷ d ∷ e ∷ f ∷ []) (eqb-true a 80 q.0) ∙ ap (λ (x : ℕ). 80 ∷ x ∷ c ∷ d ∷ e ∷ f ∷ []) (eqb-true b 70 q.1)
+record_encodes (a ∷ b ∷ c ∷ d ∷ e ∷ f ∷ g ∷ r) l m = absurd (omega arith)
 
 front_encodes : (n : ℕ) (bytes : List ℕ) → 6 * n ≤ length bytes → ((j : ℕ) → j < n → good_at bytes j ≡ true) → take (6 * n) bytes ≡ encoded_facts (facts_in n bytes)
 front_encodes zero bytes h g = refl
 front_encodes (suc n) bytes h g =
     let e : 6 * suc n ≡ 6 * n + 6 = omega arith in
-    let m = marks bytes n (g n (omega arith)) in
-    let z : get_or bytes (6 * n + 0) 0 ≡ 80 = ap (λ (k : ℕ). get_or bytes k 0) (omega arith) ∙ m.0 in
-    ap (λ (k : ℕ). take k bytes) e ∙ take_six bytes (6 * n) (omega arith)
-    ∙ ap (λ (x : ℕ). take (6 * n) bytes ++ (x ∷ get_or bytes (6 * n + 1) 0 ∷ get_or bytes (6 * n + 2) 0 ∷ get_or bytes (6 * n + 3) 0 ∷ get_or bytes (6 * n + 4) 0 ∷ get_or bytes (6 * n + 5) 0 ∷ [])) z
-    ∙ ap (λ (x : ℕ). take (6 * n) bytes ++ (80 ∷ x ∷ get_or bytes (6 * n + 2) 0 ∷ get_or bytes (6 * n + 3) 0 ∷ get_or bytes (6 * n + 4) 0 ∷ get_or bytes (6 * n + 5) 0 ∷ [])) m.1
+    let m = (and_parts (marked (record_at bytes n)) _ (g n (omega arith))).0 in
+    let d = length-drop (6 * n) bytes in
+    let l = length-take-le 6 (drop (6 * n) bytes) (omega arith) in
+    ap (λ (k : ℕ). take k bytes) e ∙ take-add (6 * n) 6 bytes
+    ∙ ap (λ (x : List ℕ). take (6 * n) bytes ++ x) (record_encodes (record_at bytes n) l m)
     ∙ ap (λ (x : List ℕ). x ++ encoded_fact (fact_at bytes n)) (front_encodes n bytes (omega arith) (λ j l. g j (omega arith)))
     ∙ sym (encoded_more (facts_in n bytes) (fact_at bytes n))
 
 pub sound_encodes : (bytes : List ℕ) → sound_part bytes ≡ encoded_facts (sound_facts bytes)
 sound_encodes bytes = front_encodes (sound_count bytes) bytes (count_fits bytes).0 (count_good bytes)
 
--- the records of an encoding are its facts
-get_or_six : (f : Fact) (bytes : List ℕ) (i k : ℕ) → get_or (encoded_fact f ++ bytes) (6 * suc i + k) 0 ≡ get_or bytes (6 * i + k) 0
-get_or_six f bytes i k =
-    let e : 6 * suc i + k ≡ suc (suc (suc (suc (suc (suc (6 * i + k)))))) = omega arith in
-    ap (λ (n : ℕ). get_or (encoded_fact f ++ bytes) n 0) e
+-- the records of an encoding are those of its facts
+record_after : (f : Fact) (bytes : List ℕ) (i : ℕ) → record_at (encoded_fact f ++ bytes) (suc i) ≡ record_at bytes i
+record_after f bytes i =
+    let e : 6 * suc i ≡ suc (suc (suc (suc (suc (suc (6 * i)))))) = omega arith in
+    ap (λ (n : ℕ). take 6 (drop n (encoded_fact f ++ bytes))) e
 
-fact_after : (f : Fact) (bytes : List ℕ) (i : ℕ) → fact_at (encoded_fact f ++ bytes) (suc i) ≡ fact_at bytes i
-fact_after f bytes i = rw (get_or_six f bytes i 2, get_or_six f bytes i 3, get_or_six f bytes i 4, get_or_six f bytes i 5)
-
-pub encoded_fact_at : (facts : List Fact) (rest : List ℕ) (i : ℕ) (f : Fact) → slice_get facts i ≡ Some f → fact_at (encoded_facts facts ++ rest) i ≡ f
-encoded_fact_at [] rest i f h = let z : ◌≡◌ {A = ℕ} 0 1 = cc in absurd (omega arith)
-encoded_fact_at (g ∷ facts) rest zero f h = let e : g ≡ f = cc in e
-encoded_fact_at (g ∷ facts) rest (suc i) f h = fact_after g (encoded_facts facts ++ rest) i ∙ encoded_fact_at facts rest i f h
-
-encoded_marked : (facts : List Fact) (rest : List ℕ) (i : ℕ) (f : Fact) → slice_get facts i ≡ Some f → marked_at (encoded_facts facts ++ rest) i ≡ true
-encoded_marked [] rest i f h = let z : ◌≡◌ {A = ℕ} 0 1 = cc in absurd (omega arith)
-encoded_marked (g ∷ facts) rest zero f h = refl
-encoded_marked (g ∷ facts) rest (suc i) f h =
-    let bytes = encoded_facts facts ++ rest in
-    let z : 6 * suc i ≡ 6 * suc i + 0 = omega arith in
-    let y : 6 * i + 0 ≡ 6 * i = omega arith in
-    ap (λ (x : ℕ). eqb x 80 && eqb (get_or (encoded_fact g ++ bytes) (6 * suc i + 1) 0) 70)
-    (ap (λ (n : ℕ). get_or (encoded_fact g ++ bytes) n 0) z ∙ get_or_six g bytes i 0 ∙ ap (λ (n : ℕ). get_or bytes n 0) y)
-    ∙ ap (λ (x : ℕ). eqb (get_or bytes (6 * i) 0) 80 && eqb x 70) (get_or_six g bytes i 1) ∙ encoded_marked facts rest i f h
+encoded_record : (facts : List Fact) (rest : List ℕ) (i : ℕ) (f : Fact) → slice_get facts i ≡ Some f → record_at (encoded_facts facts ++ rest) i ≡ encoded_fact f
+encoded_record [] rest i f h = let z : ◌≡◌ {A = ℕ} 0 1 = cc in absurd (omega arith)
+encoded_record (g ∷ facts) rest zero f h = let e : g ≡ f = cc in ap encoded_fact e
+encoded_record (g ∷ facts) rest (suc i) f h = record_after g (encoded_facts facts ++ rest) i ∙ encoded_record facts rest i f h
 
 nth_there : (facts : List Fact) (i : ℕ) → i < length facts → (f : Fact) × (slice_get facts i ≡ Some f)
 nth_there [] i h = absurd (omega arith)
@@ -105,7 +79,7 @@ module _ (facts : List Fact) (rest : List ℕ) (m : Meaning facts 0) where
       let lt : p.0 < i = omega arith in
       let lt' : p.0 < length facts = omega arith in
       let t = nth_there facts p.0 lt' in
-      let e : t.0 ≡ f = sym (encoded_fact_at facts rest p.0 t.0 t.1) ∙ some_equal (fact_at bytes p.0) f (sym (facts_nth i p.0 bytes lt) ∙ p.1) in
+      let e : t.0 ≡ f = sym (ap fact_of (encoded_record facts rest p.0 t.0 t.1)) ∙ some_equal (fact_at bytes p.0) f (sym (facts_nth i p.0 bytes lt) ∙ p.1) in
       let x = m.different p.0 i f (t.1 ∙ ap Some e) h in
       omega arith
 
@@ -114,10 +88,8 @@ module _ (facts : List Fact) (rest : List ℕ) (m : Meaning facts 0) where
       let bytes = encoded_facts facts ++ rest in
       let t = nth_there facts i h in
       let f = t.0 in
-      let e = encoded_fact_at facts rest i f t.1 in
-      and_from (marked_at bytes i) _ (encoded_marked facts rest i f t.1)
-      (subst (λ (x : Fact). (lawful_fact x && not (listed (facts_in i bytes) x)) ≡ true) (sym e)
-      (and_from (lawful_fact f) _ (m.lawful f (nth_in facts i f t.1)) (not_from_false (listed (facts_in i bytes) f) (new f t.1 (cases_Bool (listed (facts_in i bytes) f))))))
+      subst (λ (r : List ℕ). good r (facts_in i bytes) ≡ true) (sym (encoded_record facts rest i f t.1))
+      (and_from (lawful_fact f) _ (m.lawful f (nth_in facts i f t.1)) (not_from_false (listed (facts_in i bytes) f) (new f t.1 (cases_Bool (listed (facts_in i bytes) f)))))
     where
       new : (f : Fact) → slice_get facts i ≡ Some f → (listed (facts_in i (encoded_facts facts ++ rest)) f ≡ true) ⊎ (listed (facts_in i (encoded_facts facts ++ rest)) f ≡ false)
           → listed (facts_in i (encoded_facts facts ++ rest)) f ≡ false

@@ -2,7 +2,7 @@
 use Rattle.std.specs.Prelude.{ℕ, ◌/◌, List, length}
 use Rattle.terms.specs.declared.fact.Fact.{Fact}
 use Rattle.image.specs.declared.store.ImageStore.{ImageStore}
-use Rattle.image.specs.Layout.{facts_in, Sound}
+use Rattle.image.specs.Layout.{facts_in}
 
 abbrev pub image_facts : ImageStore → List Fact
 image_facts s = facts_in (length s.bytes.now / 6) s.bytes.now
@@ -10,7 +10,3 @@ image_facts s = facts_in (length s.bytes.now / 6) s.bytes.now
 -- an image has no free place
 abbrev pub image_room : ImageStore → ℕ
 image_room s = 0
-
--- the states of an image store: its bytes are exactly the records of its facts
-abbrev pub ImageValid : ImageStore → Type 0
-ImageValid s = Sound s.bytes.now (image_facts s)

@@ -1,5 +1,5 @@
 -- Factory records: how facts are laid out in bytes, and the sound part at the front of bytes.
-use Rattle.std.specs.Prelude.{◌≡◌, ℕ, zero, suc, ◌+◌, ◌*◌, ◌/◌, ◌≤◌, min, Bool, cond, not, ◌&&◌, List, [], ◌∷◌, ◌++◌, length, take, ◌==◌, slice_index}
+use Rattle.std.specs.Prelude.{◌≡◌, ℕ, zero, suc, ◌*◌, ◌/◌, ◌≤◌, min, Bool, cond, not, ◌&&◌, List, [], ◌∷◌, ◌++◌, length, take, drop, ◌==◌, slice_index}
 use Rattle.terms.specs.declared.fact.Fact.{Fact}
 use Rattle.terms.specs.Lawful.{lawful_fact}
 use Rattle.stores.specs.Meaning.{Meaning, listed}
@@ -23,27 +23,33 @@ pub record LongestSound (bytes part : List ℕ) (facts : List Fact) : Type 0 whe
   pub front : part ≡ take (length part) bytes
   pub longest : (other rest : List ℕ) (others : List Fact) → bytes ≡ other ++ rest → Sound other others → length other ≤ length part
 
--- the fact of the record at a place counted from 0
+-- the fact of a record
+abbrev pub fact_of : List ℕ → Fact
+fact_of r = record { kind = slice_index r 2; first = slice_index r 3; second = slice_index r 4; third = slice_index r 5 }
+
+-- does a record begin with the mark?
+abbrev pub marked : List ℕ → Bool
+marked r = slice_index r 0 == 80 && slice_index r 1 == 70
+
+-- is a record marked, lawful, and its fact none of those?
+abbrev pub good : List ℕ → List Fact → Bool
+good r facts = marked r && (lawful_fact (fact_of r) && not (listed facts (fact_of r)))
+
+-- the record at a place counted from 0, and its fact
+abbrev pub record_at : List ℕ → ℕ → List ℕ
+record_at bytes i = take 6 (drop (6 * i) bytes)
+
 abbrev pub fact_at : List ℕ → ℕ → Fact
-fact_at bytes i = record {
-  kind = slice_index bytes (6 * i + 2);
-  first = slice_index bytes (6 * i + 3);
-  second = slice_index bytes (6 * i + 4);
-  third = slice_index bytes (6 * i + 5);
-}
+fact_at bytes i = fact_of (record_at bytes i)
 
 -- the facts of the first n records
 abbrev pub facts_in : ℕ → List ℕ → List Fact
 facts_in zero bytes = []
 facts_in (suc n) bytes = facts_in n bytes ++ fact_at bytes n ∷ []
 
--- does the mark of a factory record stand at the place?
-abbrev pub marked_at : List ℕ → ℕ → Bool
-marked_at bytes i = slice_index bytes (6 * i) == 80 && slice_index bytes (6 * i + 1) == 70
-
 -- is the record at the place marked, lawful, and none of those before it?
 abbrev pub good_at : List ℕ → ℕ → Bool
-good_at bytes i = marked_at bytes i && (lawful_fact (fact_at bytes i) && not (listed (facts_in i bytes) (fact_at bytes i)))
+good_at bytes i = good (record_at bytes i) (facts_in i bytes)
 
 -- the place of the first record from place i on, among n records, that is not good, or the place after them
 abbrev pub good_to : ℕ → ℕ → List ℕ → ℕ
@@ -60,3 +66,7 @@ sound_part bytes = take (6 * sound_count bytes) bytes
 
 abbrev pub sound_facts : List ℕ → List Fact
 sound_facts bytes = facts_in (sound_count bytes) bytes
+
+-- the bytes are exactly the records of their facts
+abbrev pub ImageValid : List ℕ → Type 0
+ImageValid bytes = Sound bytes (facts_in (length bytes / 6) bytes)

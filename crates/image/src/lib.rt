@@ -1,55 +1,40 @@
 // Factory images: the sound part of bytes, and a store that reads its facts in place.
 #![tactic(auto)]
 
-ghost use Rattle.std.specs.Prelude.{◌≡◌, ◌+◌, ◌*◌, ◌/◌, ◌≤◌, length};
+ghost use Rattle.std.specs.Prelude.{◌≡◌, map};
 ghost use Rattle.stores.specs.Meaning.{listed};
-ghost use Rattle.image.specs.Layout.{fact_at, facts_in, good_at, sound_part, sound_facts, LongestSound};
+ghost use Rattle.image.specs.Layout.{fact_of, good, sound_part, sound_facts, LongestSound};
 
 use terms::fact::Fact;
 
 pub mod store;
 
-// The fact of the record at a place.
-fn decode(bytes: &[u8], place: usize) -> Fact
-    requires { 6 * place + 6 ≤ length bytes.now }
-    ensures { result ≡ fact_at bytes.now place }
+// The fact of a record, by its bytes.
+fn decode(bytes: &[u8; 6]) -> Fact
+    ensures { result ≡ fact_of bytes.now }
 {
-    let at = 6 * place;
+    let [_, _, kind, first, second, third] = *bytes;
     Fact {
-        kind: bytes[at + 2],
-        first: bytes[at + 3],
-        second: bytes[at + 4],
-        third: bytes[at + 5],
+        kind,
+        first,
+        second,
+        third,
     }
 }
 
-// Is the fact that of one of the first records?
-fn among(bytes: &[u8], records: usize, fact: Fact) -> bool
-    requires { 6 * records ≤ length bytes.now }
-    ensures { result ≡ listed (facts_in records bytes.now) fact }
+// Is the fact that of one of the records?
+fn among(records: &[[u8; 6]], fact: Fact) -> bool
+    ensures { result ≡ listed (map fact_of records.now) fact }
 {
-    for place in 0..records {
-        if decode(bytes, place).same(fact) {
-            return true;
-        }
-    }
-    false
+    records.iter().map(decode).any(|listed| listed == fact)
 }
 
-// Is the record at a place marked, lawful, and none of those before it?
-fn is_good(bytes: &[u8], place: usize) -> bool
-    requires { 6 * place + 6 ≤ length bytes.now }
-    ensures { result ≡ good_at bytes.now place }
+// Is the record marked, lawful, and none of those before it?
+fn is_good(bytes: &[u8; 6], before: &[[u8; 6]]) -> bool
+    ensures { result ≡ good bytes.now (map fact_of before.now) }
 {
-    let at = 6 * place;
-    if bytes[at] != 0x50 || bytes[at + 1] != 0x46 {
-        return false;
-    }
-    let fact = decode(bytes, place);
-    match fact.check() {
-        Ok(_) => !among(bytes, place, fact),
-        Err(_) => false,
-    }
+    let fact = decode(bytes);
+    bytes.starts_with(&[0x50, 0x46]) && fact.check().is_ok() && !among(before, fact)
 }
 
 // The longest front part of the bytes that is whole, lawful factory records, no fact twice, at most 65,536: it ends before
@@ -58,11 +43,12 @@ pub fn sound(bytes: &[u8]) -> &[u8]
     ensures part { result.now ≡ sound_part bytes.now }
     ensures law { LongestSound bytes.now result.now (sound_facts bytes.now) }
 {
-    let records = (bytes.len() / 6).min(65536);
-    for place in 0..records {
-        if !is_good(bytes, place) {
-            return &bytes[0..6 * place];
+    let (records, _) = bytes.as_chunks::<6>();
+    let records = &records[..records.len().min(65536)];
+    for (place, record) in records.iter().enumerate() {
+        if !is_good(record, &records[..place]) {
+            return &bytes[..6 * place];
         }
     }
-    &bytes[0..6 * records]
+    &bytes[..6 * records.len()]
 }

@@ -1,12 +1,9 @@
 // The image store: factory records read in the caller's bytes.
-ghost use Rattle.std.specs.Prelude.{◌≡◌, ◌*◌, ◌/◌, ◌≤◌, length};
-ghost use Rattle.stores.specs.Meaning.{listed, Tells, places_used};
-ghost use Rattle.image.specs.Layout.{sound_part, sound_facts, LongestSound};
-ghost use Rattle.image.specs.Images.{image_facts, image_room, ImageValid};
+ghost use Rattle.image.specs.Layout.{ImageValid};
 
 use crate::{among, decode, sound};
 use stores::store::Store;
-use stores::told::Told;
+use stores::told::{Told, answer};
 use terms::fact::Fact;
 use terms::refusal::Refusal;
 
@@ -14,12 +11,16 @@ use terms::refusal::Refusal;
 #[derive(Drop)]
 pub struct ImageStore<'a> {
     bytes: &'a [u8],
+    ghost valid: { ImageValid bytes.now },
 }
 
 impl<'a> ImageStore<'a> {
+    ghost use Rattle.std.specs.Prelude.{◌≡◌, map};
+    ghost use Rattle.image.specs.Layout.{fact_of, sound_part, sound_facts, LongestSound};
+    ghost use Rattle.image.specs.Images.{image_facts};
+
     // A store that lists the facts of the sound part of the bytes.
     pub fn open(bytes: &'a [u8]) -> ImageStore<'a>
-        ensures valid { ImageValid result }
         ensures list { image_facts result ≡ sound_facts bytes.now }
         ensures part { result.bytes.now ≡ sound_part bytes.now }
         ensures law { LongestSound bytes.now result.bytes.now (image_facts result) }
@@ -29,24 +30,26 @@ impl<'a> ImageStore<'a> {
         }
     }
 
-    fn lists(&self, fact: Fact) -> bool
-        ensures { result ≡ listed (image_facts self.now) fact }
+    fn records(&self) -> &[[u8; 6]]
+        ensures { map fact_of result.now ≡ image_facts self.now }
     {
-        among(self.bytes, self.bytes.len() / 6, fact)
+        self.bytes.as_chunks().0
     }
 }
 
 impl<'a> Store for ImageStore<'a> {
+    ghost use Rattle.image.specs.Images.{image_facts, image_room};
+
     ghost facts = { image_facts };
 
     ghost room = { image_room };
 
-    ghost valid = { ImageValid };
+    ghost valid = { λ _. Unit {0} };
 
-    ghost means = { λ s v. v.means };
+    ghost means = { λ s _. s.valid.means };
 
     fn count(&self) -> usize {
-        self.bytes.len() / 6
+        self.records().len()
     }
 
     fn free(&self) -> usize {
@@ -54,19 +57,11 @@ impl<'a> Store for ImageStore<'a> {
     }
 
     fn at(&self, place: usize) -> Option<Fact> {
-        if place < self.bytes.len() / 6 {
-            Some(decode(self.bytes, place))
-        } else {
-            None
-        }
+        self.records().get(place).map(decode)
     }
 
     // No place is ever free, so nothing changes.
     fn tell(&mut self, fact: Fact) -> Result<Told, Refusal> {
-        fact.check()?;
-        if self.lists(fact) {
-            return Ok(Told::Already);
-        }
-        Err(Refusal::NoFreePlace)
+        answer(fact, among(self.records(), fact), self.free())
     }
 }
