@@ -26,7 +26,7 @@ pub struct Cabinet {
     entries: ArrayVec<Entry, 32>,
     clock: u64,
     panel: u32,
-    ghost valid: { LogValid entries.items },
+    pub ghost valid: { LogValid entries.items },
 }
 
 impl Cabinet {

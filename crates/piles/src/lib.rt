@@ -7,6 +7,7 @@ ghost use Rattle.stores.specs.Meaning.{tell_questions};
 ghost use Rattle.piles.specs.Tables.{told_first};
 
 use stores::row::RowStore;
+use stores::store::Store;
 use stores::told::Told;
 use terms::fact::Fact;
 use terms::refusal::Refusal;

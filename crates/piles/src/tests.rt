@@ -10,18 +10,12 @@ use stores::row::RowStore;
 use stores::store::Store;
 use stores::told::Told;
 use terms::fact::Fact;
+use terms::kind::FactKind;
 use terms::refusal::Refusal;
-
-const BLANK: Fact = Fact {
-    kind: 0,
-    first: 0,
-    second: 0,
-    third: 0,
-};
 
 fn in_class(part: u8, class: u8) -> Fact {
     Fact {
-        kind: 1,
+        kind: FactKind::InClass as u8,
         first: part,
         second: class,
         third: 0,
@@ -30,7 +24,7 @@ fn in_class(part: u8, class: u8) -> Fact {
 
 #[test]
 fn a_table_of_no_rows(rt: HostRuntime) {
-    let mut rows = [BLANK; 0];
+    let mut rows = [Fact::default(); 0];
     let mut store = RowStore::open(&mut rows);
     assert_eq!(rt; store.free(), 0);
     assert_eq!(rt; store.tell(in_class(1, 2)), Err(Refusal::NoFreePlace));
@@ -40,7 +34,7 @@ fn a_table_of_no_rows(rt: HostRuntime) {
 
 #[test]
 fn a_table_of_more_than_65536_rows(rt: HostRuntime) -> Result<(), Fail> {
-    let mut rows = vec![in rt.alloc(); BLANK; 65537]?;
+    let mut rows = vec![in rt.alloc(); Fact::default(); 65537]?;
     let mut store = RowStore::open(&mut rows);
     assert_eq!(rt; store.free(), 65536);
     assert_eq!(rt; store.tell(in_class(1, 2)), Ok(Told::Added));
@@ -51,7 +45,7 @@ fn a_table_of_more_than_65536_rows(rt: HostRuntime) -> Result<(), Fail> {
 
 #[test]
 fn additions_64_and_65(rt: HostRuntime) -> Result<(), Fail> {
-    let mut rows = [BLANK; 1];
+    let mut rows = [Fact::default(); 1];
     let mut lower = RowStore::open(&mut rows);
     assert_eq!(rt; lower.tell(in_class(0, 1)), Ok(Told::Added));
     let mut pile = Additions::over(lower);
@@ -77,7 +71,7 @@ fn additions_64_and_65(rt: HostRuntime) -> Result<(), Fail> {
 
 #[test]
 fn additions_over_additions_over_rows(rt: HostRuntime) {
-    let mut rows = [BLANK; 2];
+    let mut rows = [Fact::default(); 2];
     let mut store = RowStore::open(&mut rows);
     assert_eq!(rt; store.tell(in_class(1, 1)), Ok(Told::Added));
     let mut pile = pile_two(store);
@@ -89,7 +83,7 @@ fn additions_over_additions_over_rows(rt: HostRuntime) {
 
 #[test]
 fn a_fact_that_is_only_tried(rt: HostRuntime) {
-    let mut rows = [BLANK; 2];
+    let mut rows = [Fact::default(); 2];
     assert_eq!(rt; tell_table(&mut rows, in_class(1, 1)), Ok(Told::Added));
     assert_eq!(rt; rows[0], in_class(1, 1));
     let Tried { store, answer } = try_fact(RowStore::open(&mut rows), in_class(2, 2));

@@ -12,7 +12,7 @@ use Rattle.stores.specs.declared.told.Told.{Told}
 use Rattle.stores.specs.declared.told.Told.TheVariants.{Added, Already}
 use Rattle.stores.specs.Meaning.{Meaning, listed, tell_questions, accepted_as, places_used, Tells, TellLaw}
 use Rattle.stores.proofs.Listing.{listed_in, in_listed, in_nth, nth_upper}
-use Rattle.stores.proofs.Keeping.{yes_lawful, means_more, tells_already, tells_added}
+use Rattle.stores.proofs.Keeping.{yes_lawful, means_more, answers_already, answers_added}
 
 -- a call that is done answers what it is said to answer
 asked_ok : {A : Type 0} (qs : List Question) (x t : A) → asked qs x ≡ Ok t → t ≡ x
@@ -98,11 +98,11 @@ module _ (facts : List Fact) (free : ℕ) (f : Fact) (r : Result Told Refusal) (
   tell_law = record {
     already = (
       λ e. ((yes Already e).lawful, listed_in facts f (was_listed e)),
-      λ h. done_is r Already (t.answer ∙ sym (tells_already facts free f (yes_lawful f h.0) (in_listed facts f h.1)).answer),
+      λ h. done_is r Already (t.answer ∙ answers_already facts free f (yes_lawful f h.0) (in_listed facts f h.1)),
     );
     added = (
       λ e. ((yes Added e).lawful, (λ i. both_ways (listed facts f) (was_not e) (in_listed facts f i)), was_free e),
-      λ h. done_is r Added (t.answer ∙ sym (tells_added facts free f (yes_lawful f h.0) (unlisted h.1) h.2).answer),
+      λ h. done_is r Added (t.answer ∙ answers_added facts free f (yes_lawful f h.0) (unlisted h.1) h.2),
     );
     refused = (answers (accepted_as facts f) (tell_questions facts free f) (numbered r) t.answer).refused;
     once = once_by;

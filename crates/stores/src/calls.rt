@@ -7,7 +7,7 @@ use crate::told::Told;
 use terms::fact::Fact;
 use terms::refusal::Refusal;
 
-// Is the fact in the store's list?
+// Is the fact in the store's list? A make's own `tell` scans its own rows: this call's proof stands on that `tell`.
 pub fn lists<S: Store>(store: &S, fact: Fact) -> bool
     requires { S.Store.valid store.now }
     ensures { result ≡ listed (S.Store.facts store.now) fact }

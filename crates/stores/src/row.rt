@@ -12,7 +12,7 @@ use terms::refusal::Refusal;
 pub struct RowStore<'a> {
     rows: &'a mut [Fact],
     used: usize,
-    ghost valid: { RowsValid rows.now used },
+    pub ghost valid: { RowsValid rows.now used },
 }
 
 // Writes a fact into its row.
