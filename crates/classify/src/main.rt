@@ -7,8 +7,8 @@ use records::reading::read_draft;
 use std::io::Read;
 use std::process::ExitCode;
 
-// Prints the lines of the book, or why a record is refused; was the book accepted?
-fn classify(rt: &HostRuntime) -> anyhow::Result<bool> {
+// Prints the lines of the book, or why a record is refused; the status says whether the book was accepted.
+fn main(rt: HostRuntime) -> anyhow::Result<ExitCode> {
     let heap = rt.alloc();
     let mut input = Vec::new(heap);
     rt.stdin().take(32768).read_to_end(&mut input)?;
@@ -16,19 +16,11 @@ fn classify(rt: &HostRuntime) -> anyhow::Result<bool> {
         Ok(draft) => {
             let book = draft.seal();
             rt.print(book_lines(heap, &book, impossible(&book))?)?;
-            Ok(true)
+            Ok(ExitCode::SUCCESS)
         }
         Err(fault) => {
             rt.print(refusal_line(heap, fault.refusal, fault.index)?)?;
-            Ok(false)
+            Ok(ExitCode::FAILURE)
         }
-    }
-}
-
-fn main(rt: HostRuntime) -> anyhow::Result<ExitCode> {
-    if classify(&rt)? {
-        Ok(ExitCode::SUCCESS)
-    } else {
-        Ok(ExitCode::FAILURE)
     }
 }

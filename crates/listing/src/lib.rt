@@ -122,10 +122,8 @@ impl fmt::Display for Numbers {
     ghost output = { λ n. Some (numbers (has n.0)) };
 
     fn fmt<W: fmt::Write>(&self, f: &mut fmt::Formatter<W>) -> fmt::Result {
-        for k in 0..64u8 {
-            if self.0.has(k) {
-                write!(f, " {k}")?;
-            }
+        for class in self.0 {
+            write!(f, " {class}")?;
         }
         Ok(())
     }
