@@ -1,5 +1,5 @@
 -- Sealed books: their rows, and what reading a class step answers.
-use Rattle.std.specs.Prelude.{ℕ, ◌+◌, ◌*◌, cond, ◌&&◌, List, take, nat_lt}
+use Rattle.std.specs.Prelude.{ℕ, ◌+◌, ◌*◌, cond, ◌&&◌, List, nat_lt}
 use Rattle.classes.specs.declared.ClassSet.{ClassSet}
 use Rattle.classes.specs.Sets.{none}
 use Rattle.terms.specs.declared.row.Row.{Row}
@@ -7,7 +7,7 @@ use Rattle.book.specs.Tables.{set_at}
 use Rattle.book.specs.declared.sealed.Book.{Book}
 
 abbrev pub rows_of : Book → List Row
-rows_of b = take b.used b.rows
+rows_of b = b.rows.items
 
 -- the set of classes that class A lies within
 abbrev pub within_set : Book → ℕ → ClassSet

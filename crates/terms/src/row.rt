@@ -6,7 +6,7 @@ ghost use Rattle.terms.specs.Rows.{kind_known, classes_low, features_low, count_
 use crate::refusal::Refusal;
 
 // One rule as numbers: the first `count` features, at most four, are in use.
-#[derive(Clone, Copy, PartialEq, Eq, Debug)]
+#[derive(Clone, Copy, PartialEq, Eq, Default, Debug)]
 pub struct Row {
     pub kind: u8,
     pub left: u8,
