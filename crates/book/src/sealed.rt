@@ -1,5 +1,5 @@
 // A sealed book: rows that no call changes, and exactly their class steps.
-ghost use Rattle.std.specs.Prelude.{◌≡◌, ℕ, ◌<◌, true, ◌↔◌};
+ghost use Rattle.std.specs.Prelude.{◌≡◌, ℕ, ◌<◌, ◌≤◌, true, ◌↔◌, length};
 ghost use Rattle.classes.specs.Sets.{has};
 ghost use Rattle.terms.specs.Rows.{all_lawful};
 ghost use Rattle.terms.specs.Worlds.{rules_of};
@@ -18,6 +18,7 @@ pub struct Book {
     rows: ArrayVec<Row, 256>,
     within: [ClassSet; 64],
     leads: [ClassSet; 1024],
+    ghost room: { length rows.items ≤ 256 },
     ghost lawful: { all_lawful rows.items ≡ true },
     ghost steps: { ∥ Steps (rules_of rows.items) within leads ∥₁ },
 }

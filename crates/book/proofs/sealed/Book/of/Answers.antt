@@ -12,4 +12,4 @@ invariant_of-result c =
     let d = rw c.as_slice.ensures.value at c.of-links.ensures in
     let ready = c.climb.ensures R d lo (alone_sound start c.reflexive-within.ensures R) (alone_ordered start c.reflexive-within.ensures) in
     let served = c.settle.ensures R d lo ready in
-    record { lawful = c.requires; steps = ∣ exact R lo c.settle.new.within served c.of-links.result c.leads_table-leads.result d c.leads_table-leads.ensures ∣₁ }
+    record { room = rw c.as_slice.ensures.value at c.as_slice.ensures.fits; lawful = c.requires; steps = ∣ exact R lo c.settle.new.within served c.of-links.result c.leads_table-leads.result d c.leads_table-leads.ensures ∣₁ }
