@@ -61,7 +61,7 @@ impl ClassSet {
             return None;
         }
         let class = self.bits.trailing_zeros() as u8;
-        self.bits -= 1 << class;
+        self.bits &= !(1 << class);
         Some(class)
     }
 }
