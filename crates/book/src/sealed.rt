@@ -7,20 +7,19 @@ ghost use Rattle.terms.specs.Steps.{Within, Leads, AlwaysWithin, AlwaysLeads};
 ghost use Rattle.book.specs.Tables.{Steps};
 
 use crate::links::Links;
-use crate::sealing::{climb, leads_table, reflexive, settle};
+use crate::sealing::StepTables;
 use arrayvec::ArrayVec;
 use classes::ClassSet;
 use terms::row::Row;
 
-// `within` has a set for each class; `leads` has that of class A by feature f at 64 * f + A.
+// The rows, at most 256 and each lawful, and the tables of their class steps.
 #[derive(Drop)]
 pub struct Book {
     rows: ArrayVec<Row, 256>,
-    within: [ClassSet; 64],
-    leads: [ClassSet; 1024],
+    tables: StepTables,
     ghost room: { length rows.items ≤ 256 },
     ghost lawful: { all_lawful rows.items ≡ true },
-    ghost steps: { ∥ Steps (rules_of rows.items) within leads ∥₁ },
+    ghost steps: { ∥ Steps (rules_of rows.items) tables.within tables.leads ∥₁ },
 }
 
 impl Book {
@@ -32,15 +31,8 @@ impl Book {
         ensures { rows_of result ≡ rows.items }
     {
         let links = Links::of(rows.as_slice());
-        let mut within = reflexive();
-        climb(&mut within, &links);
-        settle(&mut within, &links);
-        let leads = leads_table(&within, &links);
-        Book {
-            rows,
-            within,
-            leads,
-        }
+        let tables = StepTables::of(&links);
+        Book { rows, tables }
     }
 
     // The rows, by their numbers.
@@ -59,7 +51,7 @@ impl Book {
         if class >= 64 {
             return ClassSet::NONE;
         }
-        self.within[class as usize]
+        self.tables.within[usize::from(class)]
     }
 
     // The classes that a class leads to by a feature.
@@ -71,6 +63,6 @@ impl Book {
         if class >= 64 || feature >= 16 {
             return ClassSet::NONE;
         }
-        self.leads[64 * feature as usize + class as usize]
+        self.tables.leads[usize::from(feature)][usize::from(class)]
     }
 }
