@@ -9,8 +9,7 @@ pub(crate) fn gather(table: &[ClassSet; 64], set: ClassSet) -> ClassSet
     ensures { Gathered table.now set result }
 {
     let mut all = ClassSet::NONE;
-    let mut rest = set;
-    while let Some(class) = rest.take_lowest() {
+    for class in set {
         all = all.union(table[usize::from(class)]);
     }
     all
