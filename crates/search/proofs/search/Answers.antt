@@ -9,7 +9,7 @@ pub returns-in_default-clause-searched : goal.returns-in_default-clause-searched
 returns-in_default-clause-searched c =
     let w = c.new-walk.ensures in
     let a = subst (λ (P : List ClassSet). Answer P c.new-walk.result.book.now c.args.letters.now None) w.parts c.in_default.ensures.hunted in
-    (omega (arith, c.if-pairs-lt4096.false), subst (λ (b : Book). Answer c.args.parts.now b c.args.letters.now None) w.book a)
+    (omega arith, subst (λ (b : Book). Answer c.args.parts.now b c.args.letters.now None) w.book a)
 
 pub returns-clause-searched : goal.returns-clause-searched
 returns-clause-searched c =
@@ -18,4 +18,4 @@ returns-clause-searched c =
     let ls = c.retrace.new.letters in
     let x = Some c.retrace.result in
     let a = subst (λ (P : List ClassSet). Answer P c.hunt.new.self.book.now ls x) (s.0 ∙ w.parts) c.retrace.ensures in
-    (omega (arith, c.if-pairs-lt4096.false), subst (λ (b : Book). Answer c.args.parts.now b ls x) (s.1 ∙ w.book) a)
+    (omega arith, subst (λ (b : Book). Answer c.args.parts.now b ls x) (s.1 ∙ w.book) a)
