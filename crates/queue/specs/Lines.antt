@@ -1,5 +1,5 @@
 -- Waiting lines: the entries that wait, and the places for them.
-use Rattle.std.specs.Prelude.{ℕ, ◌-◌, ◌≤◌, cond, List, [], ◌∷◌, ◌++◌, length, take, drop, Ok, Err, Result, nat_lt}
+use Rattle.std.specs.Prelude.{ℕ, ◌-◌, cond, List, [], ◌∷◌, ◌++◌, length, take, drop, Ok, Err, Result, nat_lt}
 use Rattle.terms.specs.declared.refusal.Refusal.{Refusal}
 use Rattle.queue.specs.declared.Queue.{Queue}
 
@@ -18,11 +18,6 @@ waiting q = around q.slots.now q.head q.len
 -- every entry of the memory is a place
 abbrev pub places : {X : Type 0} → Queue X → ℕ
 places q = length q.slots.now
-
--- the head is a place, where there is one, and no more entries wait than there are places
-pub record Sound {X : Type 0} (q : Queue X) : Type 0 where
-  pub first : q.head ≤ places q - 1
-  pub fits : q.len ≤ places q
 
 -- the entries that wait once push has answered: an entry that was taken stands at the end
 abbrev pub lengthened : {A X : Type 0} → Result A Refusal → List X → X → List X

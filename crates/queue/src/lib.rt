@@ -1,10 +1,9 @@
 // A waiting line over memory that the caller lends: entries leave in the order they came.
 #![tactic(auto)]
 
-ghost use Rattle.std.specs.Prelude.{◌≡◌, ◌+◌, ◌<◌, ◌≤◌, ◌↔◌, [], ◌∷◌, ◌++◌, length, IfNone, None, OnErr, ◌==◌, nat_lt, slice_set};
+ghost use Rattle.std.specs.Prelude.{◌≡◌, ◌+◌, ◌-◌, ◌<◌, ◌≤◌, ◌↔◌, [], ◌∷◌, ◌++◌, length, IfNone, None, OnErr, ◌==◌, nat_lt, slice_set};
 ghost use Rattle.std.specs.Option.{option_to_list};
 ghost use Rattle.terms.specs.Refusals.{ask, asked, numbered};
-ghost use Rattle.queue.specs.Lines.{Sound, lengthened, places, waiting, wrapped};
 
 use terms::refusal::Refusal;
 
@@ -14,6 +13,8 @@ pub struct Queue<'a, T: Copy> {
     slots: &'a mut [T],
     head: usize,
     len: usize,
+    pub ghost first: { head ≤ length slots.now - 1 },
+    pub ghost fits: { len ≤ length slots.now },
 }
 
 // Writes the entry into its place.
@@ -24,20 +25,11 @@ fn put<T: Copy>(slots: &mut [T], at: usize, entry: T)
     slots[at] = entry;
 }
 
-// The place that comes so many places after another; after the last comes the first.
-fn place_after(place: usize, by: usize, size: usize) -> usize
-    requires inside { place < size }
-    requires near { by ≤ size }
-    ensures counted { result ≡ wrapped size (place + by) }
-{
-    let ahead = size - place;
-    if by < ahead { place + by } else { by - ahead }
-}
-
 impl<'a, T: Copy> Queue<'a, T> {
+    ghost use Rattle.queue.specs.Lines.{lengthened, places, waiting, wrapped};
+
     // A line with no entry; every entry of the memory is a place.
     pub fn new(slots: &'a mut [T]) -> Queue<'a, T>
-        ensures sound { Sound result }
         ensures empty { waiting result ≡ [] }
         ensures room { places result ≡ length slots.old }
     {
@@ -48,19 +40,32 @@ impl<'a, T: Copy> Queue<'a, T> {
         }
     }
 
+    // The place so many places after the head; after the last comes the first.
+    fn place_after_head(&self, by: usize) -> usize
+        requires any { 0 < places self.now }
+        requires near { by ≤ places self.now }
+        ensures counted { result ≡ wrapped (places self.now) (self.now.head + by) }
+    {
+        let ahead = self.slots.len() - self.head;
+        if by < ahead {
+            self.head + by
+        } else {
+            by - ahead
+        }
+    }
+
     // Adds an entry at the end, or is refused and changes nothing.
     pub fn push(&mut self, entry: T) -> Result<(), Refusal>
-        requires sound { Sound self.old }
         ensures answer { numbered result ≡ asked (ask 6 (nat_lt (length (waiting self.old)) (places self.old)) ∷ []) tt }
         ensures after { waiting self.new ≡ lengthened result (waiting self.old) entry }
         ensures unchanged { OnErr result (self.new ≡ self.old) }
         ensures room { places self.new ≡ places self.old }
-        ensures sound { Sound self.new }
     {
         if self.len >= self.slots.len() {
             return Err(Refusal::NoFreePlace);
         }
-        let at = place_after(self.head, self.len, self.slots.len());
+        let waiting = self.len;
+        let at = self.place_after_head(waiting);
         put(self.slots, at, entry);
         self.len += 1;
         Ok(())
@@ -68,26 +73,23 @@ impl<'a, T: Copy> Queue<'a, T> {
 
     // Takes the first entry, or nothing from an empty line.
     pub fn pop(&mut self) -> Option<T>
-        requires sound { Sound self.old }
         ensures taken { waiting self.old ≡ option_to_list result ++ waiting self.new }
         ensures nothing { (result ≡ None) ↔ (waiting self.old ≡ []) }
         ensures unchanged { IfNone result (self.new ≡ self.old) }
         ensures room { places self.new ≡ places self.old }
-        ensures sound { Sound self.new }
     {
         if self.len == 0 {
             return None;
         }
         let at = self.head;
         let entry = self.slots[at];
-        self.head = place_after(self.head, 1, self.slots.len());
+        self.head = self.place_after_head(1);
         self.len -= 1;
         Some(entry)
     }
 
     // How many entries wait; the question takes the line for writing and changes nothing.
     pub fn len(&mut self) -> usize
-        requires sound { Sound self.old }
         ensures answer { result ≡ length (waiting self.old) }
         ensures unchanged { self.new ≡ self.old }
     {
@@ -96,7 +98,6 @@ impl<'a, T: Copy> Queue<'a, T> {
 
     // Whether no entry waits; it changes nothing either.
     pub fn is_empty(&mut self) -> bool
-        requires sound { Sound self.old }
         ensures answer { result ≡ (length (waiting self.old) == 0) }
         ensures unchanged { self.new ≡ self.old }
     {

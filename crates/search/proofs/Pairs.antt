@@ -2,16 +2,19 @@
 use Rattle.std.proofs.Common.{◌≡◌, ℕ, ◌+◌, ◌-◌, ◌*◌, ◌<◌, ◌≤◌, ltb, ◌⊎◌, sym, ap, ◌∙◌, subst, inl, inr, arith}
 use Rattle.std.proofs.lemmas.Bool.{cases_eq, cases_lt, lt-ltb, le-ltb, cond-true, cond-false}
 use Rattle.search.specs.declared.ClassPair.{ClassPair}
-use Rattle.search.specs.Search.{Proper, ordered, place_of}
+use Rattle.search.specs.Pairs.{Proper, ordered, place_of}
 
 abbrev pub pair : ℕ → ℕ → ClassPair
 pair a b = record { left = a; right = b }
 
+same_pair : {a b c d : ℕ} → a ≡ c → b ≡ d → pair a b ≡ pair c d
+same_pair {b} {c} h k = ap (λ x. pair x b) h ∙ ap (pair c) k
+
 pub ordered_up : (a b : ℕ) → a ≤ b → ordered a b ≡ pair a b
-ordered_up a b h = cond-false (ltb b a) (pair b a) (pair a b) (le-ltb b a h)
+ordered_up a b h = same_pair (omega arith) (omega arith)
 
 pub ordered_down : (a b : ℕ) → b < a → ordered a b ≡ pair b a
-ordered_down a b h = cond-true (ltb b a) (pair b a) (pair a b) (lt-ltb b a h)
+ordered_down a b h = same_pair (omega arith) (omega arith)
 
 pub ordered_sym : (a b : ℕ) → ordered a b ≡ ordered b a
 ordered_sym a b = elim (cases_lt a b) [
@@ -85,7 +88,7 @@ place_one q r h k e =
         | inr y ↦ (omega (arith, place_high q x, place_high r y), omega (arith, place_high q x, place_high r y))
       ]
     ] in
-    ap (λ x. pair x q.right) both.0 ∙ ap (pair r.left) both.1
+    same_pair both.0 both.1
 
 pub same_or_not : (q r : ClassPair) → Proper q → Proper r → (q ≡ r) ⊎ (place_of q ≡ place_of r → ⊥)
 same_or_not q r h k = elim (cases_eq (place_of q) (place_of r)) [ inl e ↦ inl (place_one q r h k e) | inr ne ↦ inr ne ]

@@ -1,6 +1,5 @@
 -- Working on a pair that left the line, and what an empty line says.
-use Rattle.std.proofs.Common.{◌≡◌, ℕ, ◌+◌, ◌*◌, ◌<◌, ◌≤◌, ◌&&◌, ltb, ◌⊎◌, List, [], ◌∷◌, ◌++◌, length, set, sym, refl, ap, ◌∙◌, subst, inl, inr, append-nil, arith}
-use Rattle.std.proofs.lemmas.List.{get_or-set_same}
+use Rattle.std.proofs.Common.{◌≡◌, ℕ, ◌+◌, ◌*◌, ◌<◌, ◌≤◌, ◌&&◌, ltb, ◌⊎◌, List, [], ◌∷◌, ◌++◌, length, set, Some, Option, sym, refl, ap, ◌∙◌, subst, inl, inr, append-nil, arith}
 use Rattle.std.proofs.lemmas.Bool.{cases_lt, false≢true, le-ltb, and_right, cond-false}
 use Rattle.classes.specs.declared.ClassSet.{ClassSet}
 use Rattle.classes.specs.Sets.{has, none, Took}
@@ -10,24 +9,26 @@ use Rattle.book.specs.Books.{leads_set}
 use Rattle.book.specs.Tables.{set_at}
 use Rattle.search.specs.declared.ClassPair.{ClassPair}
 use Rattle.search.specs.declared.trail.Trace.{Trace}
-use Rattle.search.specs.declared.trail.Trail.{Trail}
+use Rattle.search.specs.declared.trail.Origin.TheVariants.{Step}
 use Rattle.search.specs.Graph.{Lead, Way, stay, go, Reaches}
-use Rattle.search.specs.Search.{Proper, ordered, place_of, Excludes, unmet, entry_of, mark_of, unmarked, Waits, Near, Source, Edge, Step, Closed, Marked, Met, Sources, Between, Shown}
-use Rattle.search.proofs.Pairs.{ordered_up, ordered_down, ordered_sym, place_below}
-use Rattle.search.proofs.Marking.{kept}
-use Rattle.search.proofs.Turns.{Done, From, Cells, Fresh, Turned, waits_cases, new_pair, new_proper, free, turned, struck}
+use Rattle.search.specs.Pairs.{Proper, ordered, place_of, entry_of, mark, mark_of, unmarked}
+use Rattle.search.specs.Rows.{Excludes}
+use Rattle.search.specs.Search.{Waits, Near, Source, Stepped, Closed, Met, Sources, Between, Shown}
+use Rattle.search.proofs.Pairs.{ordered_up, ordered_down, ordered_sym}
+use Rattle.search.proofs.Marking.{new_entry, old_entry}
+use Rattle.search.proofs.Turns.{Done, From, Cells, Fresh, Turned, waits_cases, new_pair, new_proper, turned, struck}
 
 -- the two classes of p lead by f to c and d
 abbrev pub Led : Book → ClassPair → ℕ → ℕ → ℕ → Type 0
 Led b p f c d = Lead b p.left f c × Lead b p.right f d
 
--- while the pair p, whose entry is here, is worked on
-pub record AtWork (P : List ClassSet) (b : Book) (W : List ClassPair) (T : List Trace) (S : List ClassSet) (limit : ℕ) (p : ClassPair) (here : Trace) : Type 0 where
-  pub met : Met P b (λ q. p ≡ q) W T S limit (here.mark + 1)
+-- while the pair p, which has this mark, is worked on
+pub record AtWork (P : List ClassSet) (b : Book) (W : List ClassPair) (T : List (Option Trace)) (p : ClassPair) (depth : ℕ) : Type 0 where
+  pub met : Met P b (λ q. p ≡ q) W T (depth + 1)
   pub sources : Sources P T
   pub proper : Proper p
-  pub entry : entry_of T p ≡ here
-  pub some : 0 < here.mark
+  pub at : mark_of T p ≡ depth
+  pub some : 0 < depth
 
 lead_low : (b : Book) (x f c : ℕ) → Lead b x f c → f < 16
 lead_low b x f c h = elim (cases_lt f 16) [
@@ -38,7 +39,7 @@ lead_low b x f c h = elim (cases_lt f 16) [
 ]
 
 -- all that a closed pair leads to is met, whichever of its classes comes first
-closed_both : (b : Book) (T : List Trace) (x y f c d : ℕ) → Closed b T (ordered x y) → Lead b x f c → Lead b y f d → Near T (ordered c d) (mark_of T (ordered x y) + 1)
+closed_both : (b : Book) (T : List (Option Trace)) (x y f c d : ℕ) → Closed b T (ordered x y) → Lead b x f c → Lead b y f d → Near T (ordered c d) (mark_of T (ordered x y) + 1)
 closed_both b T x y f c d k u v = elim (cases_lt y x) [
   | inl lt ↦
       let e = ordered_down x y lt in
@@ -54,33 +55,30 @@ module _ (P : List ClassSet) (b : Book) where
   excluded p w i r = record { left = r.left; right = r.right; rule = r.row; both = refl }
 
   -- the line is empty: all that is reached is met
-  all_met : (T : List Trace) (S : List ClassSet) (limit : ℕ) → Between P b [] T S limit → (x y n : ℕ) {c d : ℕ} {w : List ℕ} → Near T (ordered x y) n → Way b x w c → Way b y w d
+  all_met : (T : List (Option Trace)) → Between P b [] T → (x y n : ℕ) {c d : ℕ} {w : List ℕ} → Near T (ordered x y) n → Way b x w c → Way b y w d
       → Proper (ordered c d) × (0 < mark_of T (ordered c d))
-  all_met T S limit o x y n nr stay stay = (nr.proper, nr.met)
-  all_met T S limit o x y n nr (go {f = f} {C = c} l u) (go {C = d} l' u') =
+  all_met T o x y n nr stay stay = (nr.proper, nr.met)
+  all_met T o x y n nr (go {f = f} {C = c} l u) (go {C = d} l' u') =
       elim (o.met.closed (ordered x y) nr.proper nr.met) [
         | inl i ↦ elim i [ ]
-        | inr z ↦ elim z [ inl i ↦ elim i [ ] | inr k ↦ all_met T S limit o c d (mark_of T (ordered x y) + 1) (closed_both b T x y f c d k l l') u u' ]
+        | inr z ↦ elim z [ inl i ↦ elim i [ ] | inr k ↦ all_met T o c d (mark_of T (ordered x y) + 1) (closed_both b T x y f c d k l l') u u' ]
       ]
 
-  pub no_path : (W : List ClassPair) (T : List Trace) (S : List ClassSet) (limit : ℕ) → W ≡ [] → Between P b W T S limit → (p : ℕ) (w : List ℕ) (i : ℕ) → Reaches P b p w i → ⊥
-  no_path W T S limit e n p w i r =
-      let o = subst (λ (X : List ClassPair). Between P b X T S limit) e n in
-      let s = all_met T S limit o r.from_left r.from_right 1 (o.sources p r.from_left r.from_right r.in_left r.in_right) r.way_left r.way_right in
+  pub no_path : (W : List ClassPair) (T : List (Option Trace)) → W ≡ [] → Between P b W T → (p : ℕ) (w : List ℕ) (i : ℕ) → Reaches P b p w i → ⊥
+  no_path W T e n p w i r =
+      let o = subst (λ (X : List ClassPair). Between P b X T) e n in
+      let s = all_met T o r.from_left r.from_right 1 (o.sources p r.from_left r.from_right r.in_left r.in_right) r.way_left r.way_right in
       o.met.clear (ordered r.left r.right) s.0 s.1 i (excluded p w i r)
 
   -- a pair leaves the line
-  popped : (W : List ClassPair) (T : List Trace) (S : List ClassSet) (limit : ℕ) (p : ClassPair) → Between P b (p ∷ W) T S limit → AtWork P b W T S limit p (entry_of T p)
-  popped W T S limit p o = by o.met.near o.met.far o.met.split o.met.nears o.met.fars
+  popped : (W : List ClassPair) (T : List (Option Trace)) (p : ClassPair) → Between P b (p ∷ W) T → AtWork P b W T p (mark_of T p)
+  popped W T p o = by o.met.near o.met.far o.met.split o.met.nears o.met.fars
     where
       work : (near far : List ClassPair) → W ≡ near ++ far → Proper p → 0 < mark_of T p → o.depth ≤ mark_of T p + 1
           → ((q : ClassPair) → Waits near q → Proper q × (0 < mark_of T q) × (mark_of T q + 1 ≡ mark_of T p + 1))
-          → ((q : ClassPair) → Waits far q → Proper q × (mark_of T q ≡ mark_of T p + 1)) → AtWork P b W T S limit p (entry_of T p)
+          → ((q : ClassPair) → Waits far q → Proper q × (mark_of T q ≡ mark_of T p + 1)) → AtWork P b W T p (mark_of T p)
       work near far e fit ps tp ns fs = record {
         met = record {
-          size = o.met.size;
-          partners = o.met.partners;
-          room = omega (arith, o.met.room);
           low = o.met.low;
           linked = o.met.linked;
           clear = o.met.clear;
@@ -98,13 +96,13 @@ module _ (P : List ClassSet) (b : Book) where
         };
         sources = o.sources;
         proper = fit;
-        entry = refl;
+        at = refl;
         some = ps;
       }
 
       by : (near far : List ClassPair) → p ∷ W ≡ near ++ far
           → ((q : ClassPair) → Waits near q → Proper q × (0 < mark_of T q) × (mark_of T q + 1 ≡ o.depth))
-          → ((q : ClassPair) → Waits far q → Proper q × (mark_of T q ≡ o.depth)) → AtWork P b W T S limit p (entry_of T p)
+          → ((q : ClassPair) → Waits far q → Proper q × (mark_of T q ≡ o.depth)) → AtWork P b W T p (mark_of T p)
       by [] far e ns fs =
           let x = fs p (subst (λ z. Waits z p) e (inl refl)) in
           let s : 0 < mark_of T p = omega (arith, x.1, o.met.deep) in
@@ -118,134 +116,123 @@ module _ (P : List ClassSet) (b : Book) where
           (λ q h. let y = ns q (inr h) in (y.0, y.1, y.2 ∙ sym x.2))
           (λ q h. let y = fs q h in (y.0, y.1 ∙ sym x.2))
 
-  pub taken : (W W' : List ClassPair) (T : List Trace) (S : List ClassSet) (limit limit' : ℕ) (p : ClassPair) (here : Trace) → Between P b W T S limit → W ≡ p ∷ W' → limit' ≡ limit → here ≡ entry_of T p
-      → AtWork P b W' T S limit' p here
-  taken W W' T S limit limit' p here o e k h =
-      let x : AtWork P b W' T S limit p (entry_of T p) = popped W' T S limit p (subst (λ z. Between P b z T S limit) e o) in
-      subst (λ (y : Trace). AtWork P b W' T S limit' p y) (sym h) (subst (λ n. AtWork P b W' T S n p (entry_of T p)) (sym k) x)
+  pub taken : (W W' : List ClassPair) (T : List (Option Trace)) (p : ClassPair) (depth : ℕ) → Between P b W T → W ≡ p ∷ W' → mark_of T p ≡ depth → AtWork P b W' T p depth
+  taken W W' T p depth o e k = subst (λ n. AtWork P b W' T p n) k (popped W' T p (subst (λ (z : List ClassPair). Between P b z T) e o))
 
   -- all that the pair leads to is met
-  pub worked : (W : List ClassPair) (T : List Trace) (S : List ClassSet) (limit : ℕ) (p : ClassPair) (here : Trace) → AtWork P b W T S limit p here
-      → (n : ℕ) → 16 ≤ n → Done (Led b p) (From n) T (here.mark + 1) → Between P b W T S limit
-  worked W T S limit p here m n l d =
-      let e : mark_of T p ≡ here.mark = ap (λ (x : Trace). x.mark) m.entry in
-      record {
-        depth = here.mark + 1;
-        sources = m.sources;
-        met = record {
-          size = m.met.size;
-          partners = m.met.partners;
-          room = m.met.room;
-          low = m.met.low;
-          linked = m.met.linked;
-          clear = m.met.clear;
-          deep = m.met.deep;
-          top = m.met.top;
-          near = m.met.near;
-          far = m.met.far;
-          split = m.met.split;
-          nears = m.met.nears;
-          fars = m.met.fars;
-          closed = λ q h k. elim (m.met.closed q h k) [
-            | inl x ↦ inl x
-            | inr x ↦ elim x [
-              | inl y ↦ inr (inr (subst (Closed b T) y (λ f s t u v. elim (d f s t (u, v)) [
-                | inl g ↦ let low = lead_low b p.left f s u in absurd (omega arith)
-                | inr w ↦ subst (λ j. Near T (ordered s t) (j + 1)) (sym e) w
-              ])))
-              | inr y ↦ inr (inr y)
-            ]
-          ];
-        };
-      }
+  pub worked : (W : List ClassPair) (T : List (Option Trace)) (p : ClassPair) (depth : ℕ) → AtWork P b W T p depth
+      → (n : ℕ) → 16 ≤ n → Done (Led b p) (From n) T (depth + 1) → Between P b W T
+  worked W T p depth m n l d = record {
+    depth = depth + 1;
+    sources = m.sources;
+    met = record {
+      low = m.met.low;
+      linked = m.met.linked;
+      clear = m.met.clear;
+      deep = m.met.deep;
+      top = m.met.top;
+      near = m.met.near;
+      far = m.met.far;
+      split = m.met.split;
+      nears = m.met.nears;
+      fars = m.met.fars;
+      closed = λ q h k. elim (m.met.closed q h k) [
+        | inl x ↦ inl x
+        | inr x ↦ elim x [
+          | inl y ↦ inr (inr (subst (Closed b T) y (λ f s t u v. elim (d f s t (u, v)) [
+            | inl g ↦ let low = lead_low b p.left f s u in absurd (omega arith)
+            | inr w ↦ subst (λ j. Near T (ordered s t) (j + 1)) (sym m.at) w
+          ])))
+          | inr y ↦ inr (inr y)
+        ]
+      ];
+    };
+  }
 
-  module _ (W : List ClassPair) (T : List Trace) (S : List ClassSet) (limit : ℕ) (p : ClassPair) (here : Trace) (m : AtWork P b W T S limit p here) where
+  module _ (W : List ClassPair) (T : List (Option Trace)) (p : ClassPair) (depth : ℕ) (m : AtWork P b W T p depth) where
     -- what lies less deep than p is met
-    short : (k x y : ℕ) {c d : ℕ} {w : List ℕ} → Near T (ordered x y) (k + 1) → Way b x w c → Way b y w d → k + length w < here.mark
+    short : (k x y : ℕ) {c d : ℕ} {w : List ℕ} → Near T (ordered x y) (k + 1) → Way b x w c → Way b y w d → k + length w < depth
         → Proper (ordered c d) × (0 < mark_of T (ordered c d))
     short k x y nr stay stay h = (nr.proper, nr.met)
     short k x y nr (go {f = f} {C = c} {w = w} l u) (go {C = d} l' u') h =
-        let low : mark_of T (ordered x y) < here.mark = omega (arith, nr.by, h) in
+        let low : mark_of T (ordered x y) < depth = omega (arith, nr.by, h) in
         elim (m.met.closed (ordered x y) nr.proper nr.met) [
           | inl i ↦ absurd (elim (waits_cases m.met.near m.met.far (ordered x y) (subst (λ z. Waits z (ordered x y)) m.met.split i)) [
             | inl z ↦ omega (arith, (m.met.nears (ordered x y) z).2, low)
             | inr z ↦ omega (arith, (m.met.fars (ordered x y) z).1, low)
           ])
           | inr o ↦ elim o [
-            | inl i ↦ absurd (omega (arith, ap (mark_of T) i, ap (λ (z : Trace). z.mark) m.entry, low))
+            | inl i ↦ absurd (omega (arith, ap (mark_of T) i, m.at, low))
             | inr z ↦
                 let n = closed_both b T x y f c d z l l' in
                 short (k + 1) c d (record { proper = n.proper; met = n.met; by = omega (arith, n.by, nr.by) }) u u' (omega (arith, h))
           ]
         ]
 
-    pub least : (q : ℕ) (w : List ℕ) (j : ℕ) → Reaches P b q w j → here.mark + 1 ≤ length w + 1
-    least q w j r = elim (cases_lt (length w) here.mark) [
+    pub least : (q : ℕ) (w : List ℕ) (j : ℕ) → Reaches P b q w j → depth + 1 ≤ length w + 1
+    least q w j r = elim (cases_lt (length w) depth) [
       | inl lt ↦ absurd (
           let s = short 0 r.from_left r.from_right (m.sources q r.from_left r.from_right r.in_left r.in_right) r.way_left r.way_right (omega arith) in
           m.met.clear (ordered r.left r.right) s.0 s.1 j (excluded q w j r))
       | inr ge ↦ omega arith
     ]
 
-    pub low : here.mark + 1 + unmarked T ≤ 2081
-    low = let e : mark_of T p ≡ here.mark = ap (λ (x : Trace). x.mark) m.entry in
-        omega (arith, m.met.low p m.proper (omega (arith, e, m.some)), e)
+    pub low : depth + 1 + unmarked T ≤ 2081
+    low = omega (arith, m.met.low p m.proper (omega (arith, m.at, m.some)), m.at)
 
     abbrev pub next : ℕ → Trace
-    next f = record { mark = here.mark + 1; from = p; letter = f; part = here.part }
+    next f = record { depth = depth; origin = Step p f }
 
-    pub step_link : (f c d : ℕ) (q : ClassPair) → Proper q → mark_of T q ≡ 0 → q ≡ ordered c d → Led b p f c d
-        → Source P (set T (place_of q) (next f)) q ⊎ Step b (set T (place_of q) (next f)) q
-    step_link f c d q fit z is l =
-        let T' : List Trace = set T (place_of q) (next f) in
-        let i : entry_of T' q ≡ next f = get_or-set_same T (place_of q) (next f) unmet (omega (arith, place_below q fit, m.met.size)) in
-        let h : entry_of T' p ≡ here = kept T (place_of q) (place_of p) (next f) z (subst (λ (x : Trace). 0 < x.mark) (sym m.entry) m.some) ∙ m.entry in
-        inr (record {
-          proper = subst (λ (x : Trace). Proper x.from) (sym i) m.proper;
-          met = subst (λ (x : Trace). 0 < mark_of T' x.from) (sym i) (subst (λ (x : Trace). 0 < x.mark) (sym h) m.some);
-          next = ap (λ (x : Trace). x.mark) i ∙ ap (λ (x : Trace). x.mark + 1) (sym h) ∙ ap (λ (x : Trace). mark_of T' x.from + 1) (sym i);
-          edge = subst (λ (x : Trace). Edge b x.from x.letter q) (sym i) (record { c = c; d = d; left = l.0; right = l.1; ends = sym is });
-        })
+    step_link : length T ≡ 2080 → (f c d : ℕ) (q : ClassPair) → Proper q → mark_of T q ≡ 0 → q ≡ ordered c d → Led b p f c d
+        → Source P (set T (place_of q) (Some (next f))) q ⊎ Stepped b (set T (place_of q) (Some (next f))) q
+    step_link size f c d q fit z is l = inr (record {
+      depth = depth;
+      from = p;
+      letter = f;
+      entry = new_entry T size q (next f) fit;
+      proper = m.proper;
+      deep = m.some;
+      before = ap mark (old_entry T size q (next f) fit z p (omega (arith, m.at, m.some))) ∙ m.at;
+      edge = record { c = c; d = d; left = l.0; right = l.1; ends = sym is };
+    })
 
     -- the pair is still worked on when others are met
-    pub goes_on : (W' : List ClassPair) (T' : List Trace) (S' : List ClassSet) (limit' : ℕ) → Met P b (λ q. p ≡ q) W' T' S' limit' (here.mark + 1)
-        → ((q : ClassPair) → 0 < mark_of T q → entry_of T' q ≡ entry_of T q) → AtWork P b W' T' S' limit' p here
-    goes_on W' T' S' limit' x stays = record {
+    goes_on : (W' : List ClassPair) (T' : List (Option Trace)) → Met P b (λ q. p ≡ q) W' T' (depth + 1)
+        → ((q : ClassPair) → 0 < mark_of T q → entry_of T' q ≡ entry_of T q) → AtWork P b W' T' p depth
+    goes_on W' T' x stays = record {
       met = x;
-      sources = λ q c d h k. let n = m.sources q c d h k in let e = ap (λ (y : Trace). y.mark) (stays (ordered c d) n.met) in
+      sources = λ q c d h k. let n = m.sources q c d h k in let e = ap mark (stays (ordered c d) n.met) in
           record { proper = n.proper; met = omega (arith, n.met, e); by = omega (arith, n.by, e) };
       proper = m.proper;
-      entry = stays p (subst (λ (y : Trace). 0 < y.mark) (sym m.entry) m.some) ∙ m.entry;
+      at = ap mark (stays p (omega (arith, m.at, m.some))) ∙ m.at;
       some = m.some;
     }
 
   -- partner d of class c is taken, and their pair q is met
-  module _ (W : List ClassPair) (t : Trail) (limit : ℕ) (p : ClassPair) (here : Trace) (m : AtWork P b W t.trace t.seen limit p here) (f : ℕ) (s : ClassSet) (c : ℕ) (lc : c < 64) (ld : Lead b p.left f c)
-      (r r' : ClassSet) (d : ℕ) (fr : Fresh t.trace (leads_set b p.right f) c r) (w : Took r d r') (q : ClassPair) (is : q ≡ ordered c d) where
+  module _ (W : List ClassPair) (T : List (Option Trace)) (p : ClassPair) (depth : ℕ) (m : AtWork P b W T p depth) (size : length T ≡ 2080) (f : ℕ) (s : ClassSet) (c : ℕ) (lc : c < 64) (ld : Lead b p.left f c)
+      (r r' : ClassSet) (d : ℕ) (fr : Fresh T (leads_set b p.right f) c r) (w : Took r d r') (q : ClassPair) (is : q ≡ ordered c d) where
     abbrev entry : Trace
-    entry = next W t.trace t.seen limit p here m f
+    entry = next W T p depth m f
 
-    lo : here.mark + 1 + unmarked t.trace ≤ 2081
-    lo = low W t.trace t.seen limit p here m
+    lo : depth + 1 + unmarked T ≤ 2081
+    lo = low W T p depth m
+
+    pub pair_new : mark_of T q ≡ 0
+    pair_new = new_pair P b (λ x. p ≡ x) (Led b p) W T (depth + 1) f s (leads_set b p.right f) c r r' d m.met lo size fr lc w q is entry refl
 
     pub pair_proper : Proper q
-    pair_proper = new_proper P b (λ x. p ≡ x) (Led b p) W t limit (here.mark + 1) f s (leads_set b p.right f) c r r' d m.met lo fr lc w q is entry refl
+    pair_proper = new_proper P b (λ x. p ≡ x) (Led b p) W T (depth + 1) f s (leads_set b p.right f) c r r' d m.met lo size fr lc w q is entry refl
 
-    pub pair_free : length W < limit
-    pair_free = free P b (λ x. p ≡ x) (Led b p) W t limit (here.mark + 1) f s (leads_set b p.right f) c r r' d m.met lo fr lc w q is entry refl
+    link : Source P (set T (place_of q) (Some entry)) q ⊎ Stepped b (set T (place_of q) (Some entry)) q
+    link = step_link W T p depth m size f c d q pair_proper pair_new is (ld, fr.inside d w.was)
 
-    link : Source P (set t.trace (place_of q) entry) q ⊎ Step b (set t.trace (place_of q) entry) q
-    link =
-        let z = new_pair P b (λ x. p ≡ x) (Led b p) W t limit (here.mark + 1) f s (leads_set b p.right f) c r r' d m.met lo fr lc w q is entry refl in
-        step_link W t.trace t.seen limit p here m f c d q pair_proper z is (ld, fr.inside d w.was)
+    module _ (T' : List (Option Trace)) (k : T' ≡ set T (place_of q) (Some entry)) where
+      pub pair_turned : (W' : List ClassPair) → W' ≡ W ++ q ∷ [] → ((i : ℕ) → Excludes b i q → ⊥) → Done (Led b p) (Cells f s c r) T (depth + 1)
+          → Turned P b (λ x. p ≡ x) (Led b p) W' T' (depth + 1) f s (leads_set b p.right f) c r' T (length W + unmarked T) × AtWork P b W' T' p depth
+      pair_turned W' ew x dn =
+          let n = turned P b (λ x. p ≡ x) (Led b p) W T (depth + 1) f s (leads_set b p.right f) c r r' d m.met lo size fr lc w q is entry refl link T' k W' ew x dn in
+          (n, goes_on W T p depth m W' T' n.met n.stays)
 
-    module _ (t' : Trail) (k : Marked t q entry t') where
-      pub pair_turned : (W' : List ClassPair) (limit' : ℕ) → W' ≡ W ++ q ∷ [] → limit' ≡ limit → ((i : ℕ) → Excludes b i q → ⊥) → Done (Led b p) (Cells f s c r) t.trace (here.mark + 1)
-          → Turned P b (λ x. p ≡ x) (Led b p) W' t' limit' (here.mark + 1) f s (leads_set b p.right f) c r' t (length W + unmarked t.trace) × AtWork P b W' t'.trace t'.seen limit' p here
-      pair_turned W' limit' ew el x dn =
-          let n = turned P b (λ x. p ≡ x) (Led b p) W t limit (here.mark + 1) f s (leads_set b p.right f) c r r' d m.met lo fr lc w q is entry refl link t' k W' limit' ew el x dn in
-          (n, goes_on W t.trace t.seen limit p here m W' t'.trace t'.seen limit' n.met n.stays)
-
-      pub pair_struck : (i : ℕ) → Excludes b i q → Shown P b t'.trace q i
+      pub pair_struck : (i : ℕ) → Excludes b i q → Shown P b T' q i
       pair_struck i x =
-          struck P b (λ x. p ≡ x) (Led b p) W t limit (here.mark + 1) f s (leads_set b p.right f) c r r' d m.met lo fr lc w q is entry refl link t' k i x (least W t.trace t.seen limit p here m)
+          struck P b (λ x. p ≡ x) (Led b p) W T (depth + 1) f s (leads_set b p.right f) c r r' d m.met lo size fr lc w q is entry refl link T' k i x (least W T p depth m)

@@ -3,15 +3,14 @@
 
 ghost use Rattle.std.specs.Prelude.{◌≡◌, length, OnErr};
 ghost use Rattle.search.specs.Graph.{Searched};
-ghost use Rattle.search.specs.Search.{Proper, ordered, place_of};
+ghost use Rattle.search.specs.Pairs.{Proper, ordered, place_of};
 
-use crate::trail::Trail;
-use crate::walk::hunt;
+use crate::walk::Walk;
 use book::sealed::Book;
 use classes::ClassSet;
-use queue::Queue;
 use terms::refusal::Refusal;
 
+mod excluding;
 mod trail;
 mod walk;
 
@@ -30,15 +29,15 @@ pub struct Found {
     pub length: u16,
 }
 
+// Callers lend memory of pairs with any content, so the order of the two is asked of calls, and no type of its own keeps it.
 impl ClassPair {
     // The pair of two classes in either order.
     fn of(a: u8, b: u8) -> ClassPair
         ensures { result ≡ ordered a b }
     {
-        if b < a {
-            ClassPair { left: b, right: a }
-        } else {
-            ClassPair { left: a, right: b }
+        ClassPair {
+            left: a.min(b),
+            right: a.max(b),
         }
     }
 
@@ -47,8 +46,8 @@ impl ClassPair {
         requires { Proper self }
         ensures { result ≡ place_of self }
     {
-        let left = self.left as usize;
-        let right = self.right as usize;
+        let left = usize::from(self.left);
+        let right = usize::from(self.right);
         if left < 32 {
             64 * left + right
         } else {
@@ -70,24 +69,9 @@ pub fn search(
     if pairs.len() < 4096 {
         return Err(Refusal::WorkAreasTooSmall);
     }
-    let mut trail = Trail::new();
-    let mut queue = Queue::new(pairs);
-    let Some(end) = hunt(parts, book, &mut queue, &mut trail) else {
+    let mut walk = Walk::new(parts, book, pairs);
+    let Some(end) = walk.hunt() else {
         return Ok(None);
     };
-    let length = trail.entry(end.pair).mark - 1;
-    let mut pair = end.pair;
-    let mut k = length as usize;
-    while k > 0 {
-        let entry = trail.entry(pair);
-        k -= 1;
-        letters[k] = entry.letter;
-        pair = entry.from;
-    }
-    let part = trail.entry(pair).part;
-    Ok(Some(Found {
-        part,
-        row: end.row,
-        length,
-    }))
+    Ok(Some(walk.retrace(end, letters)))
 }

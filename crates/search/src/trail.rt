@@ -1,44 +1,42 @@
 // The pairs of classes met so far, and how each was met.
-ghost use Rattle.std.specs.Prelude.{◌≡◌, ◌<◌, [], ◌∷◌, ◌++◌, length};
-ghost use Rattle.queue.specs.Lines.{Sound, places, waiting};
-ghost use Rattle.search.specs.Search.{Blank, Excluding, Marked, Proper, barred, entry_of};
+ghost use Rattle.std.specs.Prelude.{◌≡◌, ℕ, ◌<◌, Some, None, length, slice_set};
+ghost use Rattle.book.specs.Tables.{set_at};
+ghost use Rattle.search.specs.Pairs.{Partners, Proper, entry_of, mark_of, place_of};
 
 use crate::ClassPair;
-use book::sealed::Book;
 use classes::ClassSet;
-use queue::Queue;
-use terms::row::Row;
 
-// How a pair was met: one more than its depth (0 where it is not), the pair before it, the letter and the part.
+// Where a pair comes from: it is two classes of a part, or another pair leads to it by a letter.
 #[derive(Clone, Copy)]
-pub struct Trace {
-    pub mark: u16,
-    pub from: ClassPair,
-    pub letter: u8,
-    pub part: u8,
+pub enum Origin {
+    Part(u8),
+    Step { from: ClassPair, letter: u8 },
 }
 
-// A trace for each pair; `seen` has at each class its partners in pairs that are met.
+// How a pair was met: the number of letters up to it, and where it comes from.
+#[derive(Clone, Copy)]
+pub struct Trace {
+    pub depth: u16,
+    pub origin: Origin,
+}
+
+// The trace of each pair that is met, at the pair's place; `seen` has at each class its partners in such pairs.
 #[derive(Drop)]
 pub struct Trail {
-    pub trace: [Trace; 2080],
-    pub seen: [ClassSet; 64],
+    trace: [Option<Trace>; 2080],
+    seen: [ClassSet; 64],
+    ghost size: { length trace ≡ 2080 },
+    ghost long: { length seen ≡ 64 },
+    ghost partners: { Partners seen trace },
 }
 
 impl Trail {
     // A trail with no pair.
     pub(crate) fn new() -> Trail
-        ensures { Blank result }
+        ensures { (q : ClassPair) → mark_of result.trace q ≡ 0 }
     {
-        let none = ClassPair { left: 0, right: 0 };
-        let unmet = Trace {
-            mark: 0,
-            from: none,
-            letter: 0,
-            part: 0,
-        };
         Trail {
-            trace: [unmet; 2080],
+            trace: [None; 2080],
             seen: [ClassSet::NONE; 64],
         }
     }
@@ -46,67 +44,27 @@ impl Trail {
     // How the pair was met.
     pub(crate) fn entry(&self, pair: ClassPair) -> Trace
         requires proper { Proper pair }
-        requires size { length self.now.trace ≡ 2080 }
-        ensures { result ≡ entry_of self.now.trace pair }
+        requires met { 0 < mark_of self.now.trace pair }
+        ensures { entry_of self.now.trace pair ≡ Some result }
     {
-        self.trace[pair.place()]
+        self.trace[pair.place()].unwrap()
+    }
+
+    // The partners of a class in pairs that are met.
+    pub(crate) fn partners(&self, class: u8) -> ClassSet
+        requires { class < 64 }
+        ensures { result ≡ set_at self.now.seen class }
+    {
+        self.seen[usize::from(class)]
     }
 
     // Adds a pair.
-    fn mark(&mut self, pair: ClassPair, trace: Trace)
-        requires proper { Proper pair }
-        requires size { length self.old.trace ≡ 2080 }
-        requires long { length self.old.seen ≡ 64 }
-        ensures { Marked self.old pair trace self.new }
+    pub(crate) fn mark(&mut self, pair: ClassPair, trace: Trace)
+        requires { Proper pair }
+        ensures { self.new.trace ≡ slice_set self.old.trace (place_of pair) (Some trace) }
     {
-        self.trace[pair.place()] = trace;
-        self.seen[pair.left as usize].insert(pair.right);
-        self.seen[pair.right as usize].insert(pair.left);
+        self.trace[pair.place()] = Some(trace);
+        self.seen[usize::from(pair.left)].insert(pair.right);
+        self.seen[usize::from(pair.right)].insert(pair.left);
     }
-}
-
-// Whether the row excludes the pair, whichever class it names first.
-fn bars(row: &Row, pair: ClassPair) -> bool
-    ensures { result ≡ barred row.now pair }
-{
-    let straight = row.left == pair.left && row.right == pair.right;
-    let turned = row.left == pair.right && row.right == pair.left;
-    row.kind == 2 && (straight || turned)
-}
-
-// The first row that excludes the pair.
-fn excluding(book: &Book, pair: ClassPair) -> Option<u8>
-    requires { Proper pair }
-    ensures { Excluding book.now pair result }
-{
-    for (i, row) in book.rows().iter().enumerate() {
-        if bars(row, pair) {
-            return Some(i as u8);
-        }
-    }
-    None
-}
-
-// Adds a pair to the trail and to the line, and answers the row that excludes it.
-pub(crate) fn meet(
-    queue: &mut Queue<'_, ClassPair>,
-    trail: &mut Trail,
-    book: &Book,
-    pair: ClassPair,
-    trace: Trace,
-) -> Option<u8>
-    requires sound { Sound queue.old }
-    requires room { length (waiting queue.old) < places queue.old }
-    requires proper { Proper pair }
-    requires size { length trail.old.trace ≡ 2080 }
-    requires long { length trail.old.seen ≡ 64 }
-    ensures sound { Sound queue.new }
-    ensures room { places queue.new ≡ places queue.old }
-    ensures line { waiting queue.new ≡ waiting queue.old ++ pair ∷ [] }
-    ensures marked { Marked trail.old pair trace trail.new }
-    ensures row { Excluding book.now pair result }
-{
-    trail.mark(pair, trace);
-    let _ = queue.push(pair);
-    excluding(book, pair)
 }
