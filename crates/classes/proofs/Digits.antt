@@ -1,8 +1,8 @@
 -- The binary digits of a number as tests.
-use Rattle.std.proofs.Common.{◌≡◌, ℕ, ◌-◌, ◌^◌, ◌<◌, ◌≤◌, min, max, Bool, false, not, ◌&&◌, ◌||◌, eqb, ltb, refl, sym, ap, ◌∙◌, inl, inr, arith, w64}
+use Rattle.std.proofs.Common.{◌≡◌, ℕ, ◌-◌, ◌^◌, ◌<◌, ◌≤◌, min, max, Bool, true, false, not, ◌&&◌, ◌||◌, eqb, ltb, refl, sym, ap, ◌∙◌, inl, inr, arith, w64}
 use lib.Bits.{bit_and, bit_or}
 use Rattle.std.specs.Int.{bit_at, bit_not}
-use Rattle.std.proofs.lemmas.Nat.Bits.{bit_at-zero, bit_at-lt, bit_at-pow_same, bit_at-pow_other, bit_at_above, bit_at_and, bit_at_or, bit_at_not, same_from_bits_below}
+use Rattle.std.proofs.lemmas.Nat.Bits.{bit_at-zero, bit_at-lt, bit_at-pow_same, bit_at-pow_other, bit_at_ones, bit_at_above, bit_at_and, bit_at_or, bit_at_not, same_from_bits_below}
 use Rattle.std.proofs.lemmas.Bool.{cases_eq, cases_lt, eq-eqb, ne_eqb, and_left}
 use Rattle.std.proofs.lemmas.Bool.Decides.{nat_tests}
 
@@ -15,6 +15,10 @@ test e = ap (λ (x : ℕ). eqb x 1) e
 
 pub bit_zero : (k : ℕ) → bit 0 k ≡ false
 bit_zero k = test (bit_at-zero k)
+
+-- the largest number of w digits has each of them
+pub bit_ones : (w k : ℕ) → k < w → bit (2 ^ w - 1) k ≡ true
+bit_ones w k h = test (bit_at_ones w k h)
 
 -- a number below 2 ^ w has no digit from w on
 pub bit_past : (w n k : ℕ) → n < 2 ^ w → w ≤ k → bit n k ≡ false

@@ -3,12 +3,16 @@ use Rattle.std.proofs.Common.{◌≡◌, ℕ, ◌^◌, ◌<◌, ◌≤◌, true,
 use lib.Bits.{or_add_and, and_le_r}
 use Rattle.std.proofs.lemmas.Bool.{both_ways, cases_lt}
 use Rattle.classes.specs.declared.ClassSet.{ClassSet}
-use Rattle.classes.specs.Sets.{has, none, joined, weight}
-use Rattle.classes.proofs.Digits.{bit_zero, bit_of_or, bit_past, same_bits}
+use Rattle.classes.specs.Sets.{has, none, all, joined, weight}
+use Rattle.classes.proofs.Digits.{bit_zero, bit_ones, bit_of_or, bit_past, same_bits}
 
 pub has_none : (k : ℕ) → has none k ≡ false
 unfolding has
 has_none = bit_zero
+
+pub has_all : (k : ℕ) → k < 64 → has all k ≡ true
+unfolding has
+has_all k h = bit_ones 64 k h
 
 pub has_joined : (s t : ClassSet) (k : ℕ) → has (joined s t) k ≡ (has s k || has t k)
 unfolding has

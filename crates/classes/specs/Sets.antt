@@ -1,5 +1,5 @@
 -- What a set of classes holds, how heavy it is, and what it is to take its lowest class.
-use Rattle.std.specs.Prelude.{◌≡◌, ℕ, ◌/◌, ◌%◌, ◌^◌, ◌<◌, Bool, true, false, not, ◌&&◌, Some, None, Option, ◌==◌, bit_or}
+use Rattle.std.specs.Prelude.{◌≡◌, ℕ, ◌-◌, ◌/◌, ◌%◌, ◌^◌, ◌<◌, Bool, true, false, not, ◌&&◌, Some, None, Option, ◌==◌, bit_or}
 use Rattle.classes.specs.declared.ClassSet.{ClassSet}
 
 -- is the class in the set?
@@ -8,6 +8,9 @@ has s k = s.bits / 2 ^ k % 2 == 1
 
 abbrev pub none : ClassSet
 none = record { bits = 0 }
+
+abbrev pub all : ClassSet
+all = record { bits = 2 ^ 64 - 1 }
 
 abbrev pub joined : ClassSet → ClassSet → ClassSet
 joined s t = record { bits = bit_or s.bits t.bits }

@@ -14,6 +14,8 @@ pub struct ClassSet {
 impl ClassSet {
     pub const NONE: ClassSet = ClassSet { bits: 0 };
 
+    pub const ALL: ClassSet = ClassSet { bits: u64::MAX };
+
     // Past 63 the answer is false.
     pub fn has(self, class: u8) -> bool
         ensures { result ≡ has self class }
