@@ -2,6 +2,7 @@
 #![tactic(auto)]
 
 ghost use Rattle.std.specs.Prelude.{◌≡◌, ℕ, not, ◌&&◌, ◌||◌, ◌==◌, nat_lt};
+ghost use Rattle.std.specs.Iterator.{at_most};
 ghost use Rattle.classes.specs.Sets.{Lowest, has, joined, weight};
 
 // A set of classes: class c is in it when bit c is set.
@@ -61,8 +62,38 @@ impl ClassSet {
             return None;
         }
         let class = self.bits.trailing_zeros() as u8;
-        self.bits -= 1 << class;
+        self.bits &= !(1 << class);
         Some(class)
+    }
+}
+
+// The classes of a set that are still to come, in rising order.
+#[derive(Drop)]
+pub struct Classes {
+    rest: ClassSet,
+}
+
+impl Iterator for Classes {
+    type Item = u8;
+
+    ghost next_gives = { λ before class after. Lowest before.rest class after.rest };
+
+    ghost remaining = { λ classes. at_most (weight classes.rest) };
+
+    fn next(&mut self) -> Option<u8> {
+        self.rest.take_lowest()
+    }
+}
+
+impl IntoIterator for ClassSet {
+    type Item = u8;
+
+    type IntoIter = Classes;
+
+    ghost into_iter_gives = { λ set classes. classes.rest ≡ set };
+
+    fn into_iter(self) -> Classes {
+        Classes { rest: self }
     }
 }
 

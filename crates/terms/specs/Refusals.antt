@@ -1,5 +1,5 @@
 -- Refusals: their numbers, and the questions that a call asks before it is done.
-use Rattle.std.specs.Prelude.{◌≡◌, ℕ, Bool, true, false, cond, ◌↔◌, List, [], ◌∷◌, ◌++◌, Ok, Err, Result}
+use Rattle.std.specs.Prelude.{◌≡◌, ℕ, Bool, true, false, cond, ◌↔◌, List, [], ◌∷◌, ◌++◌, Ok, Err, Result, codes}
 use Rattle.terms.specs.declared.refusal.Refusal.{Refusal}
 use Rattle.terms.specs.declared.refusal.Refusal.TheVariants.{UnknownKind, ClassTooHigh, FeatureTooHigh, WrongFields, DraftFull, NoFreePlace, WorkAreasTooSmall, NotJudged, NotStanding, NotClashing, OutputDoesNotFit, RecordCut, MarkNotAllowed, FactNotNew, InputTooLong}
 
@@ -20,6 +20,24 @@ number RecordCut = 12
 number MarkNotAllowed = 13
 number FactNotNew = 14
 number InputTooLong = 15
+
+-- each refusal in plain words
+abbrev pub reason : Refusal → List ℕ
+reason UnknownKind = codes "the kind is not known"
+reason ClassTooHigh = codes "a class is not below 64"
+reason FeatureTooHigh = codes "a feature in use or a letter is not below 16"
+reason WrongFields = codes "the count does not fit the kind, a feature stands twice, or an unused field is not 0"
+reason DraftFull = codes "the draft has no free row"
+reason NoFreePlace = codes "no place is free"
+reason WorkAreasTooSmall = codes "the work areas are smaller than 4096 pairs and 256 part numbers"
+reason NotJudged = codes "the sheet is not judged"
+reason NotStanding = codes "the judging did not find that the book stands"
+reason NotClashing = codes "the judging did not find a clash"
+reason OutputDoesNotFit = codes "the place is past the buffer's end or the output does not fit"
+reason RecordCut = codes "the record is not whole"
+reason MarkNotAllowed = codes "the mark is not allowed here"
+reason FactNotNew = codes "the factory fact is not new"
+reason InputTooLong = codes "the input is not shorter than 32768 bytes"
 
 -- an answer with the refusal's number in the place of its name
 abbrev pub numbered : {A : Type 0} → Result A Refusal → Result A ℕ

@@ -1,7 +1,8 @@
-// The terms that every crate shares: refusals, and the rows and facts of a part book.
+// The terms that every crate shares: refusals, kinds, and the rows and facts of a part book.
 #![tactic(auto)]
 
 pub mod example;
 pub mod fact;
+pub mod kind;
 pub mod refusal;
 pub mod row;

@@ -1,25 +1,27 @@
 // Why a call is refused.
-ghost use Rattle.std.specs.Prelude.{◌≡◌};
-ghost use Rattle.terms.specs.Refusals.{number};
+ghost use Rattle.std.specs.Prelude.{◌≡◌, Some};
+ghost use Rattle.terms.specs.Refusals.{number, reason};
 
-// What was wrong; a refused call has changed nothing.
+use std::fmt;
+
+// What was wrong, and the number of it; a refused call has changed nothing.
 #[derive(Clone, Copy, PartialEq, Eq, Debug)]
 pub enum Refusal {
-    UnknownKind,
-    ClassTooHigh,
-    FeatureTooHigh,
-    WrongFields,
-    DraftFull,
-    NoFreePlace,
-    WorkAreasTooSmall,
-    NotJudged,
-    NotStanding,
-    NotClashing,
-    OutputDoesNotFit,
-    RecordCut,
-    MarkNotAllowed,
-    FactNotNew,
-    InputTooLong,
+    UnknownKind = 1,
+    ClassTooHigh = 2,
+    FeatureTooHigh = 3,
+    WrongFields = 4,
+    DraftFull = 5,
+    NoFreePlace = 6,
+    WorkAreasTooSmall = 7,
+    NotJudged = 8,
+    NotStanding = 9,
+    NotClashing = 10,
+    OutputDoesNotFit = 11,
+    RecordCut = 12,
+    MarkNotAllowed = 13,
+    FactNotNew = 14,
+    InputTooLong = 15,
 }
 
 impl Refusal {
@@ -27,22 +29,37 @@ impl Refusal {
     pub fn number(self) -> u8
         ensures { result ≡ number self }
     {
-        match self {
-            Refusal::UnknownKind => 1,
-            Refusal::ClassTooHigh => 2,
-            Refusal::FeatureTooHigh => 3,
-            Refusal::WrongFields => 4,
-            Refusal::DraftFull => 5,
-            Refusal::NoFreePlace => 6,
-            Refusal::WorkAreasTooSmall => 7,
-            Refusal::NotJudged => 8,
-            Refusal::NotStanding => 9,
-            Refusal::NotClashing => 10,
-            Refusal::OutputDoesNotFit => 11,
-            Refusal::RecordCut => 12,
-            Refusal::MarkNotAllowed => 13,
-            Refusal::FactNotNew => 14,
-            Refusal::InputTooLong => 15,
-        }
+        self as u8
+    }
+}
+
+// A refusal in plain words.
+impl fmt::Display for Refusal {
+    ghost output = { λ r. Some (reason r) };
+
+    fn fmt<W: fmt::Write>(&self, f: &mut fmt::Formatter<W>) -> fmt::Result {
+        f.write_str(match self {
+            Refusal::UnknownKind => "the kind is not known",
+            Refusal::ClassTooHigh => "a class is not below 64",
+            Refusal::FeatureTooHigh => "a feature in use or a letter is not below 16",
+            Refusal::WrongFields => {
+                "the count does not fit the kind, a feature stands twice, or an unused field is not 0"
+            }
+            Refusal::DraftFull => "the draft has no free row",
+            Refusal::NoFreePlace => "no place is free",
+            Refusal::WorkAreasTooSmall => {
+                "the work areas are smaller than 4096 pairs and 256 part numbers"
+            }
+            Refusal::NotJudged => "the sheet is not judged",
+            Refusal::NotStanding => "the judging did not find that the book stands",
+            Refusal::NotClashing => "the judging did not find a clash",
+            Refusal::OutputDoesNotFit => {
+                "the place is past the buffer's end or the output does not fit"
+            }
+            Refusal::RecordCut => "the record is not whole",
+            Refusal::MarkNotAllowed => "the mark is not allowed here",
+            Refusal::FactNotNew => "the factory fact is not new",
+            Refusal::InputTooLong => "the input is not shorter than 32768 bytes",
+        })
     }
 }

@@ -1,12 +1,13 @@
 // A row of a part book, and the questions that make it lawful.
-ghost use Rattle.std.specs.Prelude.{◌≡◌, ◌<◌};
+ghost use Rattle.std.specs.Prelude.{◌≡◌, take, drop};
 ghost use Rattle.terms.specs.Refusals.{numbered, asked};
-ghost use Rattle.terms.specs.Rows.{kind_known, classes_low, features_low, count_fits, none_twice, new_at, unused_zero, row_questions};
+ghost use Rattle.terms.specs.Rows.{classes_low, features_low, none_twice, unused_zero, row_questions};
 
+use crate::kind::RowKind;
 use crate::refusal::Refusal;
 
 // One rule as numbers: the first `count` features, at most four, are in use.
-#[derive(Clone, Copy, PartialEq, Eq, Debug)]
+#[derive(Clone, Copy, Default, PartialEq, Eq, Debug)]
 pub struct Row {
     pub kind: u8,
     pub left: u8,
@@ -16,69 +17,43 @@ pub struct Row {
 }
 
 impl Row {
-    fn kind_known(&self) -> bool
-        ensures { result ≡ kind_known self.now }
-    {
-        1 <= self.kind && self.kind <= 5
-    }
-
     fn classes_low(&self) -> bool
         ensures { result ≡ classes_low self.now }
     {
         self.left < 64 && self.right < 64
     }
 
+    // The features in use.
+    fn used(&self) -> &[u8]
+        ensures { result.now ≡ take self.now.count self.now.features }
+    {
+        &self.features[..usize::from(self.count).min(4)]
+    }
+
+    fn unused(&self) -> &[u8]
+        ensures { result.now ≡ drop self.now.count self.now.features }
+    {
+        &self.features[usize::from(self.count).min(4)..]
+    }
+
     fn features_low(&self) -> bool
         ensures { result ≡ features_low self.now }
     {
-        for k in 0..4 {
-            if k < self.count as usize && self.features[k] >= 16 {
-                return false;
-            }
-        }
-        true
-    }
-
-    fn count_fits(&self) -> bool
-        ensures { result ≡ count_fits self.now }
-    {
-        if self.kind <= 2 {
-            self.count == 0
-        } else if self.kind <= 4 {
-            self.count == 1
-        } else {
-            1 <= self.count && self.count <= 4
-        }
+        self.used().iter().all(|feature| *feature < 16)
     }
 
     fn unused_zero(&self) -> bool
         ensures { result ≡ unused_zero self.now }
     {
-        for k in 0..4 {
-            if k >= self.count as usize && self.features[k] != 0 {
-                return false;
-            }
-        }
-        true
-    }
-
-    fn new_at(&self, i: usize) -> bool
-        requires { i < 4 }
-        ensures { result ≡ new_at self.now i }
-    {
-        for j in 0..i {
-            if i < self.count as usize && self.features[i] == self.features[j] {
-                return false;
-            }
-        }
-        true
+        self.unused().iter().all(|feature| *feature == 0)
     }
 
     fn none_twice(&self) -> bool
         ensures { result ≡ none_twice self.now }
     {
-        for i in 0..4 {
-            if !self.new_at(i) {
+        let used = self.used();
+        for (i, feature) in used.iter().enumerate() {
+            if used[..i].contains(feature) {
                 return false;
             }
         }
@@ -89,16 +64,14 @@ impl Row {
     pub fn check(&self) -> Result<(), Refusal>
         ensures { numbered result ≡ asked (row_questions self.now) tt }
     {
-        if !self.kind_known() {
-            return Err(Refusal::UnknownKind);
-        }
+        let kind = RowKind::try_from(self.kind)?;
         if !self.classes_low() {
             return Err(Refusal::ClassTooHigh);
         }
         if !self.features_low() {
             return Err(Refusal::FeatureTooHigh);
         }
-        if self.count_fits() && self.none_twice() && self.unused_zero() {
+        if kind.fits(self.count) && self.none_twice() && self.unused_zero() {
             Ok(())
         } else {
             Err(Refusal::WrongFields)

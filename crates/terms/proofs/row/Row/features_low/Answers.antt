@@ -1,17 +1,12 @@
-use Rattle.std.proofs.Common.{sym, arith}
-use Rattle.std.proofs.lemmas.Bool.Decides.{nat_tests}
-use Rattle.terms.specs.Rows.{low_at}
-use Rattle.terms.proofs.Each.{each_none, each_more, each_not, each_all}
+use Rattle.std.proofs.Common.{rules, ◌≡◌, true, false}
+use Rattle.std.specs.Prelude.{nat_lt}
+use Rattle.std.proofs.lemmas.Iterator.{cases_from_all, YieldsList-from_slice}
+use borrow.Author.Tests.{tests}
+use Rattle.terms.proofs.Features.{each_used}
 use Rattle.terms.proofs.row.Row.features_low.Goals as goal
 
-pub returns-then-self-k-ge16 : goal.returns-then-self-k-ge16
-returns-then-self-k-ge16 c = sym (each_not (low_at c.args.self.now) 4 c.loop-k.k (omega arith) (grind (arith, nat_tests)))
-
-pub loop-k-init : goal.loop-k-init
-loop-k-init c = each_none _
-
-pub loop-k-preserved : goal.loop-k-preserved
-loop-k-preserved c = each_more (low_at c.args.self.now) c.loop-k.k c.loop-k.invariant (grind (arith, nat_tests))
-
 pub returns : goal.returns
-returns c = each_all _ 4 c.loop-k.k c.loop-k.invariant (omega arith) (omega arith)
+returns c =
+    each_used c.args.self.now (search rules) (λ x. nat_lt x 16) c.all.result
+    (cases_from_all _ _ _ (λ x. nat_lt x 16 ≡ true) (λ x. nat_lt x 16 ≡ false) c.all.ensures.ran (YieldsList-from_slice _ (search rules))
+    (λ x q k. search (rules, tests)) (λ x q k. search (rules, tests)))

@@ -1,0 +1,40 @@
+-- Kinds of rows and facts: the number of each, and how many features a row of a kind has in use.
+use Rattle.std.specs.Prelude.{ℕ, Bool, cond, ◌&&◌, Ok, Err, Result, ◌==◌, nat_le}
+use Rattle.terms.specs.declared.refusal.Refusal.{Refusal}
+use Rattle.terms.specs.declared.refusal.Refusal.TheVariants.{UnknownKind}
+use Rattle.terms.specs.declared.kind.RowKind.{RowKind}
+use Rattle.terms.specs.declared.kind.RowKind.TheVariants.{Subclass, Exclusion, Value, Pullback, Key}
+use Rattle.terms.specs.declared.kind.FactKind.{FactKind}
+use Rattle.terms.specs.declared.kind.FactKind.TheVariants.{InClass, ValueAt, OneObject}
+
+-- the number of each kind of row
+abbrev pub row_number : RowKind → ℕ
+row_number Subclass = 1
+row_number Exclusion = 2
+row_number Value = 3
+row_number Pullback = 4
+row_number Key = 5
+
+-- the kind of row that a number stands for, if it is known
+abbrev pub row_kind : ℕ → Result RowKind Refusal
+row_kind n =
+    cond (n == 1) (Ok Subclass)
+    (cond (n == 2) (Ok Exclusion)
+    (cond (n == 3) (Ok Value)
+    (cond (n == 4) (Ok Pullback)
+    (cond (n == 5) (Ok Key) (Err UnknownKind)))))
+
+-- the kind of fact that a number stands for, if it is known
+abbrev pub fact_kind : ℕ → Result FactKind Refusal
+fact_kind n =
+    cond (n == 1) (Ok InClass)
+    (cond (n == 2) (Ok ValueAt)
+    (cond (n == 3) (Ok OneObject) (Err UnknownKind)))
+
+-- how many features a row of the kind may have in use
+abbrev pub fits_kind : RowKind → ℕ → Bool
+fits_kind Subclass n = n == 0
+fits_kind Exclusion n = n == 0
+fits_kind Value n = n == 1
+fits_kind Pullback n = n == 1
+fits_kind Key n = nat_le 1 n && nat_le n 4
