@@ -1,8 +1,12 @@
 -- The classes and features of lawful rows, and of the rules that they say.
-use Rattle.std.proofs.Common.{◌≡◌, ℕ, zero, suc, ◌+◌, ◌<◌, ◌≤◌, Bool, true, false, cond, ◌&&◌, eqb, ltb, leb, ◌⊎◌, List, [], ◌∷◌, length, get_or, sym, refl, ap, ◌∙◌, subst, inl, inr, arith}
+use Rattle.std.proofs.Common.{◌≡◌, ℕ, zero, suc, ◌+◌, ◌<◌, ◌≤◌, Bool, true, false, cond, ◌&&◌, eqb, ltb, leb, ◌⊎◌, List, [], ◌∷◌, length, get_or, Ok, sym, refl, ap, ◌∙◌, subst, inl, inr, arith}
 use mathlib.Core.List.Memᴰ
 use Rattle.std.proofs.lemmas.Bool.{and_parts, ltb-true, eqb-true, eqb-false, leb-true, or_cases, not-true, ltb-false, cases_Bool}
+use Rattle.std.proofs.lemmas.Bool.Decides.{nat_tests}
 use Rattle.terms.specs.declared.row.Row.{Row}
+use Rattle.terms.specs.declared.kind.RowKind.{RowKind}
+use Rattle.terms.specs.declared.kind.RowKind.TheVariants.{Subclass, Exclusion, Value, Pullback, Key}
+use Rattle.terms.specs.Kinds.{row_kind, row_number}
 use Rattle.terms.specs.Rows.{lawful, all_lawful, kind_known, classes_low, features_low, count_fits, low_at, feature_at}
 use Rattle.terms.specs.Worlds.{◌∈◌, Rule, subclass, disjoint, value, pullback, key, features_from, rule_of, rules_of}
 use Rattle.terms.proofs.Each.{each_at}
@@ -56,6 +60,14 @@ rule_3 r e = rw e
 
 pub rule_4 : (r : Row) → r.kind ≡ 4 → rule_of r ≡ pullback (feature_at r 0) r.left r.right
 rule_4 r e = rw e
+
+-- the number of a kind
+pub kind_number : (n : ℕ) (k : RowKind) → row_kind n ≡ Ok k → n ≡ row_number k
+kind_number n Subclass e = grind (arith, nat_tests)
+kind_number n Exclusion e = grind (arith, nat_tests)
+kind_number n Value e = grind (arith, nat_tests)
+kind_number n Pullback e = grind (arith, nat_tests)
+kind_number n Key e = grind (arith, nat_tests)
 
 -- any other kind says nothing of classes alone
 pub record Silent (y : Rule) : Type 0 where

@@ -8,3 +8,4 @@ pub mod Placing
 pub mod Pulling
 pub mod Stepping
 pub mod Whole
+pub mod Mapping

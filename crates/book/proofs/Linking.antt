@@ -1,24 +1,35 @@
 -- Links: one row more.
-use Rattle.std.proofs.Common.{◌≡◌, ℕ, zero, suc, ◌+◌, ◌*◌, ◌<◌, ◌&&◌, ◌||◌, eqb, ltb, ◌⊎◌, ◌↔◌, List, [], ◌∷◌, ◌++◌, length, get_or, set, replicate, sym, refl, ap, ◌∙◌, subst, inl, inr, arith}
+use Rattle.std.proofs.Common.{◌≡◌, ◌≢◌, ℕ, zero, suc, ◌<◌, ◌&&◌, ◌||◌, eqb, ltb, ◌⊎◌, ◌↔◌, List, [], ◌∷◌, ◌++◌, length, get_or, set, replicate, sym, refl, ap, ◌∙◌, subst, inl, inr, arith}
 use mathlib.Core.List.Memᴰ
-use Rattle.std.proofs.lemmas.List.{get_or-set_same, get_or-set_other}
-use Rattle.std.proofs.lemmas.Bool.{and_parts, and_from, lt-ltb, eqb-true, eq-eqb, or_cases, or_left, or_right, cases_eq, false≢true}
+use Rattle.std.proofs.lemmas.List.{get_or-set_same, get_or-set_other, get_or-replicate, length-set}
+use Rattle.std.proofs.lemmas.Bool.{and_parts, and_from, lt-ltb, eqb-true, eq-eqb, or_cases, or_left, or_right, cases_eq}
 use Rattle.classes.specs.declared.ClassSet.{ClassSet}
 use Rattle.classes.specs.Sets.{has, none}
-use Rattle.classes.proofs.Members.{has_none}
 use Rattle.terms.specs.Worlds.{◌∈◌, Rule, subclass, value, pullback}
 use Rattle.book.specs.Tables.{set_at, At}
-use Rattle.book.specs.Sealing.{Direct}
+use Rattle.book.specs.Sealing.{links_by, DirectBy, Direct}
+use Rattle.book.specs.declared.links.FeatureLinks.{FeatureLinks}
 use Rattle.book.specs.declared.links.Links.{Links}
+use Rattle.book.proofs.Gathering.{not_in_none}
 use Rattle.book.proofs.Legal.{Silent}
 
 pub at_none : (n i B : ℕ) → At (replicate n none) i B → ⊥
-at_none n i B h = false≢true (sym (has_none B) ∙ (ap (λ (s : ClassSet). has s B) (sym (nothing n i)) ∙ h))
+at_none n i B h = not_in_none B (ap (λ (s : ClassSet). has s B) (sym (nothing n i)) ∙ h)
   where
     nothing : (n i : ℕ) → get_or (replicate n none) i none ≡ none
     nothing zero i = refl
     nothing (suc n) zero = refl
     nothing (suc n) (suc i) = nothing n i
+
+-- the links of no rule
+pub by_blank : (f : ℕ) → f < 16
+    → DirectBy [] f (get_or (replicate 16 (record { ahead = replicate 64 none; behind = replicate 64 none })) f (record { ahead = []; behind = [] }))
+by_blank f h = rw (get_or-replicate {A = FeatureLinks} 16 f (record { ahead = replicate 64 none; behind = replicate 64 none }) (record { ahead = []; behind = [] }) h) (record {
+  ahead_is = λ A B _. ((λ x. absurd (at_none 64 A B x)), (λ m. absurd (Memᴰ.not-nil m)));
+  behind_is = λ A B _. ((λ x. absurd (at_none 64 A B x)), (λ m. absurd (Memᴰ.not-nil m)));
+  long_ahead = refl;
+  long_behind = refl;
+})
 
 -- one class more in the set at a place
 pub at_put : (t : List ClassSet) (i B : ℕ) (s : ClassSet) → i < length t → B < 64
@@ -48,11 +59,17 @@ more R x y = (
   (λ e. elim e [ inl a ↦ Memᴰ.append_left (y ∷ []) a | inr b ↦ Memᴰ.append_right R (Memᴰ.head b) ]),
 )
 
--- what the tables of l' hold besides those of l is what the rule y says
+-- what the tables of b' hold besides those of b is what the rule y says along f
+pub record AddsBy (y : Rule) (f : ℕ) (b b' : FeatureLinks) : Type 0 where
+  pub ahead : (A B : ℕ) → A < 64 → At b'.ahead A B ↔ (At b.ahead A B ⊎ (value A f B ≡ y))
+  pub behind : (A B : ℕ) → A < 64 → At b'.behind A B ↔ (At b.behind A B ⊎ (pullback f A B ≡ y))
+  pub long_ahead : length b'.ahead ≡ length b.ahead
+  pub long_behind : length b'.behind ≡ length b.behind
+
+-- the same of all tables
 pub record Adds (y : Rule) (l l' : Links) : Type 0 where
   pub above : (A B : ℕ) → A < 64 → At l'.above A B ↔ (At l.above A B ⊎ (subclass A B ≡ y))
-  pub ahead : (A f B : ℕ) → A < 64 → f < 16 → At l'.ahead (64 * f + A) B ↔ (At l.ahead (64 * f + A) B ⊎ (value A f B ≡ y))
-  pub behind : (A f B : ℕ) → A < 64 → f < 16 → At l'.behind (64 * f + A) B ↔ (At l.behind (64 * f + A) B ⊎ (pullback f A B ≡ y))
+  pub by : (f : ℕ) → f < 16 → AddsBy y f (links_by l f) (links_by l' f)
   pub into : (A f B : ℕ) → (At l.into B A ⊎ (value A f B ≡ y)) → At l'.into B A
 
 through : {P P' Q Q' E : Type 0} → (P' ↔ (P ⊎ E)) → (P ↔ Q) → (Q' ↔ (Q ⊎ E)) → P' ↔ Q'
@@ -64,8 +81,12 @@ through a b c = (
 direct_push : (R : List Rule) (y : Rule) (l l' : Links) → Adds y l l' → Direct R l → Direct (R ++ y ∷ []) l'
 direct_push R y l l' a d = record {
   above_is = λ A B h. through (a.above A B h) (d.above_is A B h) (more R (subclass A B) y);
-  ahead_is = λ A f B h k. through (a.ahead A f B h k) (d.ahead_is A f B h k) (more R (value A f B) y);
-  behind_is = λ A f B h k. through (a.behind A f B h k) (d.behind_is A f B h k) (more R (pullback f A B) y);
+  by_is = λ f k. let x = a.by f k in let b = d.by_is f k in record {
+    ahead_is = λ A B h. through (x.ahead A B h) (b.ahead_is A B h) (more R (value A f B) y);
+    behind_is = λ A B h. through (x.behind A B h) (b.behind_is A B h) (more R (pullback f A B) y);
+    long_ahead = x.long_ahead ∙ b.long_ahead;
+    long_behind = x.long_behind ∙ b.long_behind;
+  };
   into_has = λ A f B m. a.into A f B (elim ((more R (value A f B) y).0 m) [ inl x ↦ inl (d.into_has A f B x) | inr e ↦ inr e ]);
 }
 
@@ -76,11 +97,14 @@ push_as R y z l l' e a d = subst (λ (x : Rule). Direct (R ++ x ∷ []) l') (sym
 kept : {P E : Type 0} → (E → ⊥) → P ↔ (P ⊎ E)
 kept n = (inl, (λ e. elim e [ inl p ↦ p | inr x ↦ absurd (n x) ]))
 
+-- links by a feature of which the rule says nothing
+by_none : (y : Rule) (f : ℕ) (b : FeatureLinks) → ((A B : ℕ) → value A f B ≡ y → ⊥) → ((A B : ℕ) → pullback f A B ≡ y → ⊥) → AddsBy y f b b
+by_none y f b n m = record { ahead = λ A B h. kept (n A B); behind = λ A B h. kept (m A B); long_ahead = refl; long_behind = refl }
+
 pub adds_none : (y : Rule) (l : Links) → Silent y → Adds y l l
 adds_none y l s = record {
   above = λ A B h. kept (s.no_sub A B);
-  ahead = λ A f B h k. kept (s.no_val A f B);
-  behind = λ A f B h k. kept (s.no_pull f A B);
+  by = λ f h. by_none y f (links_by l f) (λ A B. s.no_val A f B) (λ A B. s.no_pull f A B);
   into = λ A f B e. elim e [ inl x ↦ x | inr x ↦ absurd (s.no_val A f B x) ];
 }
 
@@ -90,42 +114,59 @@ either e = ((λ a. elim a [ inl p ↦ inl p | inr x ↦ inr (e.0 x) ]), (λ a. e
 then : {P Q S : Type 0} → (P ↔ Q) → (Q ↔ S) → P ↔ S
 then a b = ((λ p. b.0 (a.0 p)), (λ s. a.1 (b.1 s)))
 
+-- the links by a feature after those by feature g have become b
+by_put : (l : Links) (g : ℕ) (b : FeatureLinks) (y : Rule) → length l.by_feature ≡ 16 → g < 16 → AddsBy y g (links_by l g) b
+    → ((f A B : ℕ) → f ≢ g → value A f B ≡ y → ⊥) → ((f A B : ℕ) → f ≢ g → pullback f A B ≡ y → ⊥)
+    → (f : ℕ) → AddsBy y f (links_by l f) (get_or (set l.by_feature g b) f (record { ahead = []; behind = [] }))
+by_put l g b y n h a nv np f =
+    elim (cases_eq f g) [
+      | inl e ↦ rw e (rw (get_or-set_same l.by_feature g b (record { ahead = []; behind = [] }) (omega arith)) a)
+      | inr ne ↦ rw (get_or-set_other l.by_feature g f b (record { ahead = []; behind = [] }) ne)
+          (by_none y f (links_by l f) (λ A B. nv f A B ne) (λ A B. np f A B ne))
+    ]
+
 module _ (l : Links) (L D : ℕ) (s : ClassSet) (ll : L < 64) (dl : D < 64) where
   pub adds_sub : length l.above ≡ 64 → ((k : ℕ) → has s k ≡ (has (set_at l.above L) k || (eqb k D && ltb k 64)))
-      → Adds (subclass L D) l (record { above = set l.above L s; ahead = l.ahead; behind = l.behind; into = l.into })
+      → Adds (subclass L D) l (record { above = set l.above L s; by_feature = l.by_feature; into = l.into })
   adds_sub n h = record {
     above = λ A B _. then (at_put l.above L D s (omega arith) dl h A B)
         (either ((λ p. let a = p.0 in let b = p.1 in cc), (λ e. let a : A ≡ L = cc in let b : B ≡ D = cc in (a, b))));
-    ahead = λ A f B _ _. kept (λ e. let z : ◌≡◌ {A = ℕ} 0 1 = cc in omega arith);
-    behind = λ A f B _ _. kept (λ e. let z : ◌≡◌ {A = ℕ} 0 1 = cc in omega arith);
-    into = λ A f B e. elim e [ inl x ↦ x | inr e ↦ let z : ◌≡◌ {A = ℕ} 0 1 = cc in absurd (omega arith) ];
+    by = λ f _. by_none (subclass L D) f (links_by l f) (λ A B e. cc) (λ A B e. cc);
+    into = λ A f B e. elim e [ inl x ↦ x | inr e ↦ cc ];
   }
 
-  pub adds_pull : (g : ℕ) → g < 16 → length l.behind ≡ 1024 → ((k : ℕ) → has s k ≡ (has (set_at l.behind (64 * g + L)) k || (eqb k D && ltb k 64)))
-      → Adds (pullback g L D) l (record { above = l.above; ahead = l.ahead; behind = set l.behind (64 * g + L) s; into = l.into })
-  adds_pull g gl n h = record {
-    above = λ A B _. kept (λ e. let z : ◌≡◌ {A = ℕ} 0 1 = cc in omega arith);
-    ahead = λ A f B _ _. kept (λ e. let z : ◌≡◌ {A = ℕ} 0 1 = cc in omega arith);
-    behind = λ A f B al fl. then (at_put l.behind (64 * g + L) D s (omega arith) dl h (64 * f + A) B)
-        (either (
-          (λ p. let q = p.0 in let a : A ≡ L = omega arith in let b : f ≡ g = omega arith in let d = p.1 in cc),
-          (λ e. let a : A ≡ L = cc in let b : f ≡ g = cc in let d : B ≡ D = cc in (rw (a, b), d)),
-        ));
-    into = λ A f B e. elim e [ inl x ↦ x | inr e ↦ let z : ◌≡◌ {A = ℕ} 0 1 = cc in absurd (omega arith) ];
+  pub adds_pull : (g : ℕ) → g < 16 → length l.by_feature ≡ 16 → length (links_by l g).behind ≡ 64
+      → ((k : ℕ) → has s k ≡ (has (set_at (links_by l g).behind L) k || (eqb k D && ltb k 64)))
+      → Adds (pullback g L D) l (record { above = l.above; by_feature = set l.by_feature g (record { ahead = (links_by l g).ahead; behind = set (links_by l g).behind L s }); into = l.into })
+  adds_pull g gl n m h = record {
+    above = λ A B _. kept (λ e. cc);
+    by = λ f _. by_put l g (record { ahead = (links_by l g).ahead; behind = set (links_by l g).behind L s }) (pullback g L D) n gl
+        (record {
+          ahead = λ A B _. kept (λ e. cc);
+          behind = λ A B _. then (at_put (links_by l g).behind L D s (omega arith) dl h A B)
+              (either ((λ p. let a = p.0 in let b = p.1 in cc), (λ e. let a : A ≡ L = cc in let b : B ≡ D = cc in (a, b))));
+          long_ahead = refl;
+          long_behind = length-set (links_by l g).behind L s;
+        })
+        (λ f A B _ e. cc) (λ f A B ne e. ne (cc)) f;
+    into = λ A f B e. elim e [ inl x ↦ x | inr e ↦ cc ];
   }
 
-  pub adds_val : (g : ℕ) (t : ClassSet) → g < 16 → length l.ahead ≡ 1024 → length l.into ≡ 64
-      → ((k : ℕ) → has s k ≡ (has (set_at l.ahead (64 * g + L)) k || (eqb k D && ltb k 64)))
+  pub adds_val : (g : ℕ) (t : ClassSet) → g < 16 → length l.by_feature ≡ 16 → length (links_by l g).ahead ≡ 64 → length l.into ≡ 64
+      → ((k : ℕ) → has s k ≡ (has (set_at (links_by l g).ahead L) k || (eqb k D && ltb k 64)))
       → ((k : ℕ) → has t k ≡ (has (set_at l.into D) k || (eqb k L && ltb k 64)))
-      → Adds (value L g D) l (record { above = l.above; ahead = set l.ahead (64 * g + L) s; behind = l.behind; into = set l.into D t })
-  adds_val g t gl n m h i = record {
-    above = λ A B _. kept (λ e. let z : ◌≡◌ {A = ℕ} 0 1 = cc in omega arith);
-    ahead = λ A f B al fl. then (at_put l.ahead (64 * g + L) D s (omega arith) dl h (64 * f + A) B)
-        (either (
-          (λ p. let q = p.0 in let a : A ≡ L = omega arith in let b : f ≡ g = omega arith in let d = p.1 in cc),
-          (λ e. let a : A ≡ L = cc in let b : f ≡ g = cc in let d : B ≡ D = cc in (rw (a, b), d)),
-        ));
-    behind = λ A f B _ _. kept (λ e. let z : ◌≡◌ {A = ℕ} 0 1 = cc in omega arith);
+      → Adds (value L g D) l (record { above = l.above; by_feature = set l.by_feature g (record { ahead = set (links_by l g).ahead L s; behind = (links_by l g).behind }); into = set l.into D t })
+  adds_val g t gl n m o h i = record {
+    above = λ A B _. kept (λ e. cc);
+    by = λ f _. by_put l g (record { ahead = set (links_by l g).ahead L s; behind = (links_by l g).behind }) (value L g D) n gl
+        (record {
+          ahead = λ A B _. then (at_put (links_by l g).ahead L D s (omega arith) dl h A B)
+              (either ((λ p. let a = p.0 in let b = p.1 in cc), (λ e. let a : A ≡ L = cc in let b : B ≡ D = cc in (a, b))));
+          behind = λ A B _. kept (λ e. cc);
+          long_ahead = length-set (links_by l g).ahead L s;
+          long_behind = refl;
+        })
+        (λ f A B ne e. ne (cc)) (λ f A B _ e. cc) f;
     into = λ A f B e. (at_put l.into D L t (omega arith) ll i B A).1
         (elim e [ inl x ↦ inl x | inr e ↦ let a : A ≡ L = cc in let d : B ≡ D = cc in inr (d, a) ]);
   }

@@ -8,7 +8,6 @@ use Rattle.terms.specs.Worlds.{Rule}
 use Rattle.terms.specs.Steps.{Within, chained}
 use Rattle.book.specs.Tables.{set_at, At}
 use Rattle.book.specs.Sealing.{widened, Extended, Gathered, Ordered, Sound, Placed}
-use Rattle.book.proofs.Gathering.{gathered_from, gathered_all}
 
 widened_from : (s : ClassSet) (a : ℕ) (more : ClassSet) (B : ℕ) → has (widened s a more) B ≡ true → (has s B ≡ true) ⊎ ((has s a ≡ true) × (has more B ≡ true))
 widened_from s a more B h = by (has s a) refl h
@@ -28,7 +27,7 @@ widened_new : (s : ClassSet) (a : ℕ) (more : ClassSet) (B : ℕ) → has s a �
 widened_new s a more B e h = ap (λ (b : Bool). has (cond b (joined s more) s) B) e ∙ (has_joined s more B ∙ or_right _ _ h)
 
 module _ (w : List ClassSet) (a : ℕ) (s more : ClassSet) (v : List ClassSet) (g : ClassSet)
-    (low : a < 64) (fit : weight s < 2 ^ 64) (ga : Gathered w 0 s more) (ex : Extended w a more v g) where
+    (low : a < 64) (fit : weight s < 2 ^ 64) (ga : Gathered w s more) (ex : Extended w a more v g) where
   at_from : (X B : ℕ) → At v X B → At w X B ⊎ (At w X a × (has more B ≡ true))
   at_from X B h = widened_from (set_at w X) a more B (subst (λ (t : ClassSet). has t B ≡ true) (ex.each X) h)
 
@@ -40,7 +39,7 @@ module _ (w : List ClassSet) (a : ℕ) (s more : ClassSet) (v : List ClassSet) (
 
   -- more is closed upward
   more_up : Ordered w → (B C : ℕ) → has more B ≡ true → At w B C → has more C ≡ true
-  more_up o B C h k = let t = gathered_from ga B h in gathered_all ga t.0 C t.1 (o.trans t.0 B C t.2 k)
+  more_up o B C h k = let t = ga.from B h in ga.all t.0 C t.2 (o.trans t.0 B C t.3 k)
 
   order : Ordered w → Ordered v
   order o = record { refl = λ A l. at_old A A (o.refl A l); trans = trans }
@@ -56,7 +55,7 @@ module _ (w : List ClassSet) (a : ℕ) (s more : ClassSet) (v : List ClassSet) (
   sounds R so in-s A B h =
       elim (at_from A B h) [
         | inl x ↦ so A B x
-        | inr x ↦ let t = gathered_from ga B x.1 in chained (so A a x.0) (chained (in-s t.0 t.1) (so t.0 B t.2))
+        | inr x ↦ let t = ga.from B x.1 in chained (so A a x.0) (chained (in-s t.0 t.2) (so t.0 B t.3))
       ]
 
   pub placed : Placed w a s v g
@@ -64,6 +63,6 @@ module _ (w : List ClassSet) (a : ℕ) (s more : ClassSet) (v : List ClassSet) (
     grew = at_old;
     kept = ex.kept;
     ordered = order;
-    there = λ o B h. at_new a B (o.refl a low) (gathered_all ga B B h (o.refl B (has_low s B fit h)));
+    there = λ o B h. at_new a B (o.refl a low) (ga.all B B h (o.refl B (has_low s B fit h)));
     sound = sounds;
   }

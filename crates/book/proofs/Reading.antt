@@ -1,12 +1,11 @@
 -- What reading a table of exact class steps answers.
-use Rattle.std.proofs.Common.{◌≡◌, ℕ, ◌+◌, ◌*◌, ◌<◌, ◌≤◌, Bool, true, cond, ◌&&◌, eqb, ltb, ◌⊎◌, ◌↔◌, List, [], sym, ap, ◌∙◌, inl, inr, arith}
+use Rattle.std.proofs.Common.{◌≡◌, ℕ, ◌<◌, ◌≤◌, Bool, true, cond, ◌&&◌, eqb, ltb, ◌⊎◌, ◌↔◌, List, [], sym, ap, ◌∙◌, inl, inr, arith}
 use mathlib.Core.Bool.{Bool-set}
 use mathlib.Core.Logic.{∥∥₁_elim, ∥∥₁_map}
 use mathlib.Core.List.Memᴰ
-use Rattle.std.proofs.lemmas.Bool.{false≢true, and_parts, and_from, lt-ltb, ltb-true, ltb-false, eqb-true, eq-eqb, cases_Bool}
+use Rattle.std.proofs.lemmas.Bool.{and_parts, and_from, lt-ltb, ltb-true, ltb-false, eqb-true, eq-eqb, cases_Bool}
 use Rattle.classes.specs.declared.ClassSet.{ClassSet}
 use Rattle.classes.specs.Sets.{has, none}
-use Rattle.classes.proofs.Members.{has_none}
 use Rattle.terms.specs.Worlds.{Rule}
 use Rattle.terms.specs.Steps.{Within, Leads, itself, AlwaysWithin, AlwaysLeads}
 use Rattle.theory.specs.Legal.{Legal, RulesLegal}
@@ -15,26 +14,24 @@ use Rattle.theory.specs.Theorems.{StepsMissNothing}
 use Rattle.theory.proofs.Sound.{within_sound, leads_sound}
 use Rattle.theory.proofs.Range.{within_range, leads_range}
 use Rattle.theory.proofs.Alone.{steps_are_complete}
-use Rattle.book.specs.Tables.{set_at, At, Steps}
-
-none_holds : {P : Type 0} (B : ℕ) → has none B ≡ true → P
-none_holds B h = absurd (false≢true (sym (has_none B) ∙ h))
+use Rattle.book.specs.Tables.{set_at, table_at, At, Steps}
+use Rattle.book.proofs.Gathering.{not_in_none}
 
 -- a number that is no class lies within none
 pub within_none : (P : Type 0) (A B : ℕ) → 64 ≤ A → (has none B ≡ true) ↔ ((A < 64) × P)
-within_none P A B high = (none_holds B, (λ p. let z = p.0 in absurd (omega arith)))
+within_none P A B high = (not_in_none B, (λ p. let z = p.0 in absurd (omega arith)))
 
 -- the tables as tests at every number
 abbrev within_test : List ClassSet → ℕ → ℕ → Bool
 within_test w A B = cond (ltb A 64) (has (set_at w A) B) (eqb A B)
 
-abbrev leads_test : List ClassSet → ℕ → ℕ → ℕ → Bool
-leads_test l A f B = (ltb A 64 && ltb f 16) && has (set_at l (64 * f + A)) B
+abbrev leads_test : List (List ClassSet) → ℕ → ℕ → ℕ → Bool
+leads_test l A f B = (ltb A 64 && ltb f 16) && has (set_at (table_at l f) A) B
 
 pub legal_rules : {R : List Rule} → RulesLegal R → Legal R []
 legal_rules l = record { rules = l; facts = λ c m. absurd (Memᴰ.not-nil m) }
 
-module _ {R : List Rule} {w l : List ClassSet} (legal : RulesLegal R) (s : Steps R w l) where
+module _ {R : List Rule} {w : List ClassSet} {l : List (List ClassSet)} (legal : RulesLegal R) (s : Steps R w l) where
   within_decided : (A B : ℕ) → (within_test w A B ≡ true) ↔ Within R A B
   within_decided A B =
       elim (cases_Bool (ltb A 64)) [
@@ -70,7 +67,7 @@ module _ {R : List Rule} {w l : List ClassSet} (legal : RulesLegal R) (s : Steps
   pub complete : StepsMissNothing R
   complete = steps_are_complete R (within_test w) (leads_test l) (legal_rules legal) decided
 
-module _ (R : List Rule) (w l : List ClassSet) (legal : RulesLegal R) (s : ∥ Steps R w l ∥₁) where
+module _ (R : List Rule) (w : List ClassSet) (l : List (List ClassSet)) (legal : RulesLegal R) (s : ∥ Steps R w l ∥₁) where
   pub within_answer : (A B : ℕ) → A < 64 → At w A B ↔ ((A < 64) × ∥ Within R A B ∥₁)
   within_answer A B low = (
     (λ h. (low, ∥∥₁_map s (λ t. (t.within_is A B low).0 h))),
@@ -83,13 +80,13 @@ module _ (R : List Rule) (w l : List ClassSet) (legal : RulesLegal R) (s : ∥ S
     (λ p. ∥∥₁_elim s (Bool-set _ _) (λ t. (t.within_is A B low).1 ((complete legal t).within A B p.1))),
   )
 
-  pub leads_answer : (A f B : ℕ) → A < 64 → f < 16 → At l (64 * f + A) B ↔ ∥ Leads R A f B ∥₁
+  pub leads_answer : (A f B : ℕ) → A < 64 → f < 16 → At (table_at l f) A B ↔ ∥ Leads R A f B ∥₁
   leads_answer A f B a b = (
     (λ h. ∥∥₁_map s (λ t. (t.leads_is A f B a b).0 h)),
     (λ p. ∥∥₁_elim p (Bool-set _ _) (λ v. ∥∥₁_elim s (Bool-set _ _) (λ t. (t.leads_is A f B a b).1 v))),
   )
 
-  pub leads_certain : (A f B : ℕ) → A < 64 → f < 16 → At l (64 * f + A) B ↔ AlwaysLeads R A f B
+  pub leads_certain : (A f B : ℕ) → A < 64 → f < 16 → At (table_at l f) A B ↔ AlwaysLeads R A f B
   leads_certain A f B a b = (
     (λ h W k x i. ∥∥₁_elim s (Bool-set _ _) (λ t. leads_sound W k ((t.leads_is A f B a b).0 h) x i)),
     (λ p. ∥∥₁_elim s (Bool-set _ _) (λ t. (t.leads_is A f B a b).1 ((complete legal t).leads A f B p))),
@@ -101,8 +98,8 @@ module _ (R : List Rule) (w l : List ClassSet) (legal : RulesLegal R) (s : ∥ S
       let z = leads_range legal v in elim high [ inl a ↦ absurd (omega arith) | inr b ↦ absurd (omega arith) ]
 
   pub leads_none : (A f B : ℕ) → (64 ≤ A) ⊎ (16 ≤ f) → (has none B ≡ true) ↔ ∥ Leads R A f B ∥₁
-  leads_none A f B high = (none_holds B, (λ p. ∥∥₁_elim p (Bool-set _ _) (nowhere A f B high)))
+  leads_none A f B high = (not_in_none B, (λ p. ∥∥₁_elim p (Bool-set _ _) (nowhere A f B high)))
 
   pub leads_none_certain : (A f B : ℕ) → (64 ≤ A) ⊎ (16 ≤ f) → (has none B ≡ true) ↔ AlwaysLeads R A f B
   leads_none_certain A f B high =
-      (none_holds B, (λ p. ∥∥₁_elim s (Bool-set _ _) (λ t. nowhere A f B high ((complete legal t).leads A f B p))))
+      (not_in_none B, (λ p. ∥∥₁_elim s (Bool-set _ _) (λ t. nowhere A f B high ((complete legal t).leads A f B p))))

@@ -1,16 +1,12 @@
 -- Steps one after another, and the loop that takes classes from the waiting ones.
-use Rattle.std.proofs.Common.{◌≡◌, ℕ, ◌+◌, ◌*◌, ◌^◌, ◌<◌, true, false, not, ◌&&◌, ◌||◌, eqb, ltb, List, sym, ap, ◌∙◌, subst, inl, inr, arith}
+use Rattle.std.proofs.Common.{◌≡◌, ℕ, ◌+◌, ◌*◌, ◌^◌, ◌<◌, true, false, not, eqb, List, sym, ap, ◌∙◌, subst, inl, inr, arith}
 use lib.Bits.{or_zero_r}
-use Rattle.std.proofs.lemmas.Bool.{or_parts, and_cases, not-false, eqb-true, cases_eq, both_ways, and_from, eq-eqb, lt-ltb, or_left, or_right, cases_Bool}
+use Rattle.std.proofs.lemmas.Bool.{or_parts, and_cases, not-false, eqb-true, cases_eq, both_ways, cases_Bool}
 use Rattle.classes.specs.declared.ClassSet.{ClassSet}
 use Rattle.classes.specs.Sets.{has, none, joined, weight, Took}
 use Rattle.classes.proofs.Members.{has_joined, has_none, empty_none, extensional}
 use Rattle.terms.specs.Worlds.{Rule}
 use Rattle.book.specs.Sealing.{Gathered, Ordered, Served, Step, Heavier, Open, Ready, missing}
-use Rattle.book.proofs.Gathering.{gathered_from}
-
-pub step_none : (R : List Rule) (w : List ClassSet) → Step R w none w
-step_none R w = record { grew = λ A B h. h; ordered = λ o. o; sound = λ s. s; keeps = λ A f _ s. s }
 
 neither : (g h : ClassSet) (A : ℕ) → has (joined g h) A ≡ false → (has g A ≡ false) × (has h A ≡ false)
 neither g h A e = or_parts (has g A) (has h A) (sym (has_joined g h A) ∙ e)
@@ -40,7 +36,7 @@ heavier_then u v w g h p q =
     both x y = ap (λ (s : ClassSet). weight (joined s h)) (empty_none g x) ∙ ap (λ (s : ClassSet). weight (joined none s)) (empty_none h y)
 
 -- nothing grew, so nothing is to be looked at again
-pub heavier_gathered : (w v table : List ClassSet) (g r : ClassSet) → weight r < 2 ^ 64 → Gathered table 0 g r → Heavier w g v → Heavier w r v
+pub heavier_gathered : (w v table : List ClassSet) (g r : ClassSet) → weight r < 2 ^ 64 → Gathered table g r → Heavier w g v → Heavier w r v
 heavier_gathered w v table g r fit ga p = record {
   least = p.least;
   unless = elim p.unless [ inl x ↦ inl (ap weight (extensional r none fit (omega arith) (λ k. empty k x))) | inr x ↦ inr x ];
@@ -49,8 +45,8 @@ heavier_gathered w v table g r fit ga p = record {
     empty : (k : ℕ) → weight g ≡ 0 → has r k ≡ has none k
     empty k x =
         elim (cases_Bool (has r k)) [
-          | inl e ↦ let t = gathered_from ga k e in
-              absurd (both_ways (has g t.0) (ap (λ (s : ClassSet). has s t.0) (empty_none g x) ∙ has_none t.0) t.1)
+          | inl e ↦ let t = ga.from k e in
+              absurd (both_ways (has g t.0) (ap (λ (s : ClassSet). has s t.0) (empty_none g x) ∙ has_none t.0) t.2)
           | inr e ↦ e ∙ sym (has_none k)
         ]
 
@@ -102,10 +98,3 @@ measure_less w v waiting rest again a fit t h =
   where
     same : (s : ClassSet) → weight (joined s none) ≡ weight s
     same s = or_zero_r s.bits
-
--- one class more in a set
-pub all_more : (s t : ClassSet) (n : ℕ) → n < 64 → ((k : ℕ) → has t k ≡ (has s k || (eqb k n && ltb k 64)))
-    → ((k : ℕ) → k < n → has s k ≡ true) → (k : ℕ) → k < n + 1 → has t k ≡ true
-all_more s t n l h old k m =
-    h k ∙ elim (cases_eq k n)
-    [ inl e ↦ or_right _ _ (and_from _ _ (eq-eqb k n e) (lt-ltb k 64 (omega arith))) | inr ne ↦ or_left _ _ (old k (omega arith)) ]

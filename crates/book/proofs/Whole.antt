@@ -1,14 +1,14 @@
 -- A table that is sound, ordered, and has all that the rules pull back holds exactly the class steps.
-use Rattle.std.proofs.Common.{◌≡◌, ℕ, ◌+◌, ◌-◌, ◌*◌, ◌%◌, ◌<◌, ◌↔◌, List, sym, refl, ◌∙◌, subst, inl, inr, arith}
+use Rattle.std.proofs.Common.{◌≡◌, ℕ, ◌<◌, ◌↔◌, List, refl, ◌∙◌, subst, inl, inr}
 use Rattle.classes.specs.declared.ClassSet.{ClassSet}
 use Rattle.classes.specs.Sets.{none}
 use Rattle.classes.proofs.Members.{has_none}
 use Rattle.terms.specs.Worlds.{◌∈◌, Rule, value}
 use Rattle.terms.specs.Steps.{Within, Leads, itself, by_rule, chained, pulled, by_value, widened}
 use Rattle.theory.proofs.Range.{within_range, leads_range}
-use Rattle.book.specs.Tables.{set_at, At, Steps}
+use Rattle.book.specs.Tables.{At, Steps}
 use Rattle.theory.specs.Legal.{RulesLegal}
-use Rattle.book.specs.Sealing.{Direct, Ordered, Sound, Open, Led}
+use Rattle.book.specs.Sealing.{Direct, Ordered, Sound, Open, AllLed}
 use Rattle.book.specs.declared.links.Links.{Links}
 
 -- each class within itself alone
@@ -53,22 +53,15 @@ module _ (R : List Rule) (lo : RulesLegal R) where
             order.trans _ _ _ t.4 (whole q (leads_range lo l).2),
           )
 
-    pub exact : (links : Links) (leads : List ClassSet) → Direct R links → ((i : ℕ) → i < 1024 → Led w links.ahead i (set_at leads i)) → Steps R w leads
+    pub exact : (links : Links) (leads : List (List ClassSet)) → Direct R links → AllLed w links leads → Steps R w leads
     exact links leads d h = record {
       within_is = λ A B l. ((λ a. o.ready.sound A B a), (λ p. whole p l));
       leads_is = λ A f B a b.
-          let i = 64 * f + A in
-          let at : Led w links.ahead i (set_at leads i) = h i (omega arith) in
-          let m : i % 64 ≡ A = omega arith in (
+          let at = (h f b).each A a in
+          let by = d.by_is f b in (
             (λ k. let t = at.from B k in
-                let q : i - i % 64 + t.0 ≡ 64 * f + t.0 = omega arith in
-                widened (o.ready.sound A t.0 (subst (λ (x : ℕ). At w x t.0) m t.3))
-                (by_value ((d.ahead_is t.0 f t.1 t.2 b).0 (subst (λ (x : ℕ). At links.ahead x t.1) q t.4)))
-                (o.ready.sound t.1 B t.5)),
-            (λ p. let t = ways p in
-                let q : 64 * f + t.0 ≡ i - i % 64 + t.0 = omega arith in
-                at.all t.0 t.1 B (subst (λ (x : ℕ). At w x t.0) (sym m) t.2)
-                (subst (λ (x : ℕ). At links.ahead x t.1) q ((d.ahead_is t.0 f t.1 (lo _ t.3).0 b).1 t.3)) t.4),
+                widened (o.ready.sound A t.0 t.3) (by_value ((by.ahead_is t.0 t.1 t.2).0 t.4)) (o.ready.sound t.1 B t.5)),
+            (λ p. let t = ways p in at.all t.0 t.1 B t.2 ((by.ahead_is t.0 t.1 (lo _ t.3).0).1 t.3) t.4),
           );
       leads_low = λ A f B p. let t = leads_range lo p in (t.0, t.1);
     }

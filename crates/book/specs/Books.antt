@@ -1,18 +1,18 @@
 -- Sealed books: their rows, and what reading a class step answers.
-use Rattle.std.specs.Prelude.{ℕ, ◌+◌, ◌*◌, cond, ◌&&◌, List, take, nat_lt}
+use Rattle.std.specs.Prelude.{ℕ, cond, ◌&&◌, List, nat_lt}
 use Rattle.classes.specs.declared.ClassSet.{ClassSet}
 use Rattle.classes.specs.Sets.{none}
 use Rattle.terms.specs.declared.row.Row.{Row}
-use Rattle.book.specs.Tables.{set_at}
+use Rattle.book.specs.Tables.{set_at, table_at}
 use Rattle.book.specs.declared.sealed.Book.{Book}
 
 abbrev pub rows_of : Book → List Row
-rows_of b = take b.used b.rows
+rows_of b = b.rows.items
 
 -- the set of classes that class A lies within
 abbrev pub within_set : Book → ℕ → ClassSet
-within_set b A = cond (nat_lt A 64) (set_at b.within A) none
+within_set b A = cond (nat_lt A 64) (set_at b.tables.within A) none
 
 -- the set of classes that class A leads to by feature f
 abbrev pub leads_set : Book → ℕ → ℕ → ClassSet
-leads_set b A f = cond (nat_lt A 64 && nat_lt f 16) (set_at b.leads (64 * f + A)) none
+leads_set b A f = cond (nat_lt A 64 && nat_lt f 16) (set_at (table_at b.tables.leads f) A) none

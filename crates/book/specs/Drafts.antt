@@ -1,5 +1,5 @@
 -- Drafts: the rows taken, and what the call rule answers.
-use Rattle.std.specs.Prelude.{◌≡◌, ℕ, ◌<◌, true, ◌↔◌, List, [], ◌∷◌, ◌++◌, length, take, Ok, Err, Result, nat_lt}
+use Rattle.std.specs.Prelude.{◌≡◌, ℕ, ◌<◌, true, ◌↔◌, List, [], ◌∷◌, ◌++◌, length, Ok, Err, Result, nat_lt}
 use Rattle.terms.specs.declared.row.Row.{Row}
 use Rattle.terms.specs.declared.refusal.Refusal.{Refusal}
 use Rattle.terms.specs.Refusals.{Question, ask, numbered, FirstNo}
@@ -8,7 +8,7 @@ use Rattle.book.specs.declared.draft.Draft.{Draft}
 
 -- the rows that the draft has taken
 abbrev pub listed : Draft → List Row
-listed d = take d.used d.rows
+listed d = d.rows.items
 
 -- the questions of rule, in their order: those of the row, then whether a row is free
 abbrev pub rule_questions : List Row → Row → List Question

@@ -1,28 +1,43 @@
 -- What the inner functions of sealing promise each other; no public call cites this file.
-use Rattle.std.specs.Prelude.{◌≡◌, ℕ, ◌+◌, ◌-◌, ◌*◌, ◌%◌, ◌^◌, ◌<◌, ◌≤◌, true, false, cond, ◌⊎◌, ◌↔◌, List, [], ◌∷◌}
+use Rattle.std.specs.Prelude.{◌≡◌, ℕ, ◌+◌, ◌-◌, ◌^◌, ◌<◌, ◌≤◌, true, false, cond, ◌⊎◌, ◌↔◌, List, [], ◌∷◌, length, slice_index_or}
 use Rattle.classes.specs.declared.ClassSet.{ClassSet}
 use Rattle.classes.specs.Sets.{has, joined, weight}
 use Rattle.terms.specs.Worlds.{◌∈◌, Rule, subclass, value, pullback}
 use Rattle.terms.specs.Steps.{Within}
-use Rattle.book.specs.Tables.{set_at, At}
+use Rattle.book.specs.Tables.{set_at, table_at, At}
+use Rattle.book.specs.declared.links.FeatureLinks.{FeatureLinks}
 use Rattle.book.specs.declared.links.Links.{Links}
 
--- the links hold exactly what the rules say of classes directly; `into` may hold more
+-- the links by a feature; past the last, those with no table
+abbrev pub links_by : Links → ℕ → FeatureLinks
+links_by l f = slice_index_or l.by_feature f (record { ahead = []; behind = [] })
+
+-- the links by feature f hold exactly what the rules say of classes along it
+pub record DirectBy (R : List Rule) (f : ℕ) (b : FeatureLinks) : Type 0 where
+  pub ahead_is : (A B : ℕ) → A < 64 → At b.ahead A B ↔ (value A f B ∈ R)
+  pub behind_is : (A B : ℕ) → A < 64 → At b.behind A B ↔ (pullback f A B ∈ R)
+  pub long_ahead : length b.ahead ≡ 64
+  pub long_behind : length b.behind ≡ 64
+
+-- every class has the classes with a value in it, and may have more
+abbrev pub Entered : List Rule → List ClassSet → Type 0
+Entered R into = (A f B : ℕ) → value A f B ∈ R → At into B A
+
+-- the links hold exactly what the rules say of classes directly
 pub record Direct (R : List Rule) (l : Links) : Type 0 where
   pub above_is : (A B : ℕ) → A < 64 → At l.above A B ↔ (subclass A B ∈ R)
-  pub ahead_is : (A f B : ℕ) → A < 64 → f < 16 → At l.ahead (64 * f + A) B ↔ (value A f B ∈ R)
-  pub behind_is : (A f B : ℕ) → A < 64 → f < 16 → At l.behind (64 * f + A) B ↔ (pullback f A B ∈ R)
-  pub into_has : (A f B : ℕ) → value A f B ∈ R → At l.into B A
+  pub by_is : (f : ℕ) → f < 16 → DirectBy R f (links_by l f)
+  pub into_has : Entered R l.into
 
--- r is the union of the sets that stand at base + k for the classes k of s
-pub record Gathered (table : List ClassSet) (base : ℕ) (s r : ClassSet) : Type 0 where
-  pub from : (B : ℕ) → has r B ≡ true → (k : ℕ) × (k < 64) × (has s k ≡ true) × At table (base + k) B
-  pub all : (k B : ℕ) → has s k ≡ true → At table (base + k) B → has r B ≡ true
+-- r is the union of the sets of the classes k of s
+pub record Gathered (table : List ClassSet) (s r : ClassSet) : Type 0 where
+  pub from : (B : ℕ) → has r B ≡ true → (k : ℕ) × (k < 64) × (has s k ≡ true) × At table k B
+  pub all : (k B : ℕ) → has s k ≡ true → At table k B → has r B ≡ true
 
 -- the same while the classes of rest are still to come
-pub record Gathering (table : List ClassSet) (base : ℕ) (s rest r : ClassSet) : Type 0 where
-  pub from : (B : ℕ) → has r B ≡ true → (k : ℕ) × (k < 64) × (has s k ≡ true) × At table (base + k) B
-  pub all : (k B : ℕ) → has s k ≡ true → At table (base + k) B → (has rest k ≡ true) ⊎ (has r B ≡ true)
+pub record Gathering (table : List ClassSet) (s rest r : ClassSet) : Type 0 where
+  pub from : (B : ℕ) → has r B ≡ true → (k : ℕ) × (k < 64) × (has s k ≡ true) × At table k B
+  pub all : (k B : ℕ) → has s k ≡ true → At table k B → (has rest k ≡ true) ⊎ (has r B ≡ true)
   pub part : (k : ℕ) → has rest k ≡ true → has s k ≡ true
 
 -- the set s gains more where it has a
@@ -92,7 +107,15 @@ pub record Open (R : List Rule) (w : List ClassSet) (waiting : ClassSet) : Type 
   pub ready : Ready R w
   pub served : (A f : ℕ) → A < 64 → f < 16 → has waiting A ≡ false → Served R w A f
 
--- the set at place i of the table of leads: from a class of the set at i % 64 by its link to a class, and on to r
-pub record Led (w ahead : List ClassSet) (i : ℕ) (r : ClassSet) : Type 0 where
-  pub from : (B : ℕ) → has r B ≡ true → (C : ℕ) × (D : ℕ) × (C < 64) × At w (i % 64) C × At ahead (i - i % 64 + C) D × At w D B
-  pub all : (C D B : ℕ) → At w (i % 64) C → At ahead (i - i % 64 + C) D → At w D B → has r B ≡ true
+-- r has what the classes of s lead to by these links: from a class of s by a link to a class, and on to all that it lies within
+pub record Led (w ahead : List ClassSet) (s r : ClassSet) : Type 0 where
+  pub from : (B : ℕ) → has r B ≡ true → (C : ℕ) × (D : ℕ) × (C < 64) × (has s C ≡ true) × At ahead C D × At w D B
+  pub all : (C D B : ℕ) → has s C ≡ true → At ahead C D → At w D B → has r B ≡ true
+
+-- the table has for each class what it leads to by these links
+pub record EachLed (w ahead leads : List ClassSet) : Type 0 where
+  pub each : (A : ℕ) → A < 64 → Led w ahead (set_at w A) (set_at leads A)
+
+-- and the tables for each feature
+abbrev pub AllLed : List ClassSet → Links → List (List ClassSet) → Type 0
+AllLed w l leads = (f : ℕ) → f < 16 → EachLed w (links_by l f).ahead (table_at leads f)

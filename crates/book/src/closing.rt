@@ -1,19 +1,16 @@
 // Closing the table of classes that each class lies within.
-ghost use Rattle.std.specs.Prelude.{◌≡◌, ◌+◌, ◌<◌, ◌≤◌, length};
-ghost use Rattle.classes.specs.Sets.{has};
+ghost use Rattle.std.specs.Prelude.{◌≡◌, ◌<◌};
 ghost use Rattle.book.specs.Sealing.{Gathered, widened, Heavier, Extended, Placed};
 
 use classes::ClassSet;
 
-// The union of the sets at `base + k` for the classes k of the set.
-pub(crate) fn gather(table: &[ClassSet], base: usize, set: ClassSet) -> ClassSet
-    requires { base + 64 ≤ length table.now }
-    ensures { Gathered table.now base set result }
+// The union of the sets that the table has for the classes of the set.
+pub(crate) fn gather(table: &[ClassSet; 64], set: ClassSet) -> ClassSet
+    ensures { Gathered table.now set result }
 {
     let mut all = ClassSet::NONE;
-    let mut rest = set;
-    while let Some(k) = rest.take_lowest() {
-        all = all.union(table[base + k as usize]);
+    for class in set {
+        all = all.union(table[usize::from(class)]);
     }
     all
 }
@@ -33,12 +30,11 @@ fn extend(within: &mut [ClassSet; 64], a: u8, more: ClassSet) -> ClassSet
     if more.is_empty() {
         return grown;
     }
-    for x in 0..64u8 {
-        let old = within[x as usize];
-        let new = widen(old, a, more);
-        if new != old {
-            within[x as usize] = new;
-            grown.insert(x);
+    for (class, set) in within.iter_mut().enumerate() {
+        let new = widen(*set, a, more);
+        if new != *set {
+            *set = new;
+            grown.insert(class as u8);
         }
     }
     grown
@@ -50,6 +46,6 @@ pub(crate) fn place(within: &mut [ClassSet; 64], a: u8, set: ClassSet) -> ClassS
     ensures placed { Placed within.old a set within.new result }
     ensures heavier { Heavier within.old result within.new }
 {
-    let more = gather(within, 0, set);
+    let more = gather(within, set);
     extend(within, a, more)
 }

@@ -2,61 +2,43 @@
 ghost use Rattle.std.specs.Prelude.{◌≡◌, ℕ, ◌<◌, true, false, ◌↔◌, List};
 ghost use Rattle.classes.specs.Sets.{has, none};
 ghost use Rattle.terms.specs.Worlds.{Rule};
-ghost use Rattle.book.specs.Tables.{set_at, At};
+ghost use Rattle.book.specs.Tables.{set_at, At, Steps};
 ghost use Rattle.theory.specs.Legal.{RulesLegal};
-ghost use Rattle.book.specs.Sealing.{Direct, Heavier, Ordered, Sound, Served, Step, Ready, Open, Led};
+ghost use Rattle.book.specs.Sealing.{Direct, DirectBy, Entered, Heavier, Ordered, Sound, Served, Step, Ready, Open, Led, EachLed, AllLed};
 
 use crate::closing::{gather, place};
-use crate::links::Links;
+use crate::links::{FeatureLinks, Links};
 use classes::ClassSet;
 
+// Of the class steps, `within` has a set for each class, and `leads` for each feature a set for each class.
+#[derive(Drop)]
+pub struct StepTables {
+    pub within: [ClassSet; 64],
+    pub leads: [[ClassSet; 64]; 16],
+}
+
+impl StepTables {
+    // The class steps of the rules that the links say.
+    pub(crate) fn of(links: &Links) -> StepTables
+        ensures { (R : List Rule) → Direct R links.now → RulesLegal R → Steps R result.within result.leads }
+    {
+        let mut within = reflexive();
+        links.climb(&mut within);
+        links.settle(&mut within);
+        let leads = links.leads(&within);
+        StepTables { within, leads }
+    }
+}
+
 // Each class lies within itself.
-pub(crate) fn reflexive() -> [ClassSet; 64]
+fn reflexive() -> [ClassSet; 64]
     ensures { (A B : ℕ) → At result A B ↔ ((A ≡ B) × (A < 64)) }
 {
     let mut within = [ClassSet::NONE; 64];
-    for a in 0..64u8 {
-        within[a as usize].insert(a);
+    for (class, set) in within.iter_mut().enumerate() {
+        set.insert(class as u8);
     }
     within
-}
-
-// Adds what the rows of kind 1 say.
-pub(crate) fn climb(within: &mut [ClassSet; 64], links: &Links)
-    ensures { (R : List Rule) → Direct R links.now → RulesLegal R → Sound R within.old → Ordered within.old → Ready R within.new }
-{
-    for a in 0..64u8 {
-        let _ = place(within, a, links.above[a as usize]);
-    }
-}
-
-// Adds what the rows of kind 4 pull back to `a` along the feature; the answer has the classes to look at again.
-fn pull(within: &mut [ClassSet; 64], links: &Links, a: u8, feature: u8) -> ClassSet
-    requires class { a < 64 }
-    requires low { feature < 16 }
-    ensures step { (R : List Rule) → Direct R links.now → Step R within.old result within.new }
-    ensures served { (R : List Rule) → Direct R links.now → RulesLegal R → Ordered within.old → has result a ≡ false → Served R within.new a feature }
-    ensures heavier { Heavier within.old result within.new }
-{
-    let base = 64 * feature as usize;
-    let led = gather(within, 0, links.ahead[base + a as usize]);
-    let back = gather(&links.behind, base, led);
-    let grown = place(within, a, back);
-    gather(&links.into, 0, grown)
-}
-
-// The same along every feature.
-fn visit(within: &mut [ClassSet; 64], links: &Links, a: u8) -> ClassSet
-    requires { a < 64 }
-    ensures step { (R : List Rule) → Direct R links.now → Step R within.old result within.new }
-    ensures served { (R : List Rule) → Direct R links.now → RulesLegal R → Ordered within.old → has result a ≡ false → (f : ℕ) → f < 16 → Served R within.new a f }
-    ensures heavier { Heavier within.old result within.new }
-{
-    let mut again = ClassSet::NONE;
-    for feature in 0..16u8 {
-        again = again.union(pull(within, links, a, feature));
-    }
-    again
 }
 
 fn every_class() -> ClassSet
@@ -69,33 +51,80 @@ fn every_class() -> ClassSet
     all
 }
 
-// Adds all that the rows of kind 4 pull back; a class waits until it has been looked at since the sets it needs grew.
-pub(crate) fn settle(within: &mut [ClassSet; 64], links: &Links)
-    ensures { (R : List Rule) → Direct R links.now → RulesLegal R → Ready R within.old → Open R within.new none }
-{
-    let mut waiting = every_class();
-    while let Some(a) = waiting.take_lowest() {
-        waiting = waiting.union(visit(within, links, a));
+impl FeatureLinks {
+    // Adds what the rows of kind 4 pull back to `a` along the feature; the answer has the classes to look at again.
+    fn pull(&self, within: &mut [ClassSet; 64], into: &[ClassSet; 64], a: u8) -> ClassSet
+        requires { a < 64 }
+        ensures step { (R : List Rule) (f : ℕ) → DirectBy R f self.now → Entered R into.now → Step R within.old result within.new }
+        ensures served { (R : List Rule) (f : ℕ) → DirectBy R f self.now → Entered R into.now → RulesLegal R → Ordered within.old → has result a ≡ false → Served R within.new a f }
+        ensures heavier { Heavier within.old result within.new }
+    {
+        let led = gather(within, self.ahead[usize::from(a)]);
+        let back = gather(&self.behind, led);
+        let grown = place(within, a, back);
+        gather(into, grown)
+    }
+
+    // The classes to which those of the set lead by the feature.
+    fn led(&self, within: &[ClassSet; 64], set: ClassSet) -> ClassSet
+        ensures { Led within.now self.now.ahead set result }
+    {
+        let next = gather(&self.ahead, set);
+        gather(within, next)
+    }
+
+    // The classes that each class leads to by the feature.
+    fn leads(&self, within: &[ClassSet; 64]) -> [ClassSet; 64]
+        ensures { EachLed within.now self.now.ahead result }
+    {
+        within.map(|set| self.led(within, set))
     }
 }
 
-// The set at place i, where class A by feature f stands at 64 * f + A.
-fn led(within: &[ClassSet; 64], links: &Links, i: usize) -> ClassSet
-    requires { i < 1024 }
-    ensures { Led within.now links.now.ahead i result }
-{
-    let a = i % 64;
-    let next = gather(&links.ahead, i - a, within[a]);
-    gather(within, 0, next)
-}
-
-// The classes that each class leads to by each feature.
-pub(crate) fn leads_table(within: &[ClassSet; 64], links: &Links) -> [ClassSet; 1024]
-    ensures { (i : ℕ) → i < 1024 → Led within.now links.now.ahead i (set_at result i) }
-{
-    let mut leads = [ClassSet::NONE; 1024];
-    for i in 0..1024 {
-        leads[i] = led(within, links, i);
+// The table is passed beside the links: a struct of both would have to say in each contract that the links stay.
+impl Links {
+    // Adds what the rows of kind 1 say.
+    fn climb(&self, within: &mut [ClassSet; 64])
+        ensures { (R : List Rule) → Direct R self.now → RulesLegal R → Sound R within.old → Ordered within.old → Ready R within.new }
+    {
+        for (class, above) in self.above.iter().enumerate() {
+            let _ = place(within, class as u8, *above);
+        }
     }
-    leads
+
+    // Adds what the rows of kind 4 pull back to `a` along every feature.
+    fn visit(&self, within: &mut [ClassSet; 64], a: u8) -> ClassSet
+        requires { a < 64 }
+        ensures step { (R : List Rule) → Direct R self.now → Step R within.old result within.new }
+        ensures served { (R : List Rule) → Direct R self.now → RulesLegal R → Ordered within.old → has result a ≡ false → (f : ℕ) → f < 16 → Served R within.new a f }
+        ensures heavier { Heavier within.old result within.new }
+    {
+        let mut again = ClassSet::NONE;
+        for by in &self.by_feature {
+            again = again.union(by.pull(within, &self.into, a));
+        }
+        again
+    }
+
+    // Adds all that the rows of kind 4 pull back; a class waits until it has been looked at since the sets it needs grew.
+    fn settle(&self, within: &mut [ClassSet; 64])
+        ensures { (R : List Rule) → Direct R self.now → RulesLegal R → Ready R within.old → Open R within.new none }
+    {
+        let mut waiting = every_class();
+        while let Some(a) = waiting.take_lowest() {
+            waiting = waiting.union(self.visit(within, a));
+        }
+    }
+
+    // The classes that each class leads to, feature by feature.
+    fn leads(&self, within: &[ClassSet; 64]) -> [[ClassSet; 64]; 16]
+        ensures { AllLed within.now self.now result }
+    {
+        // A loop, since no fact is inferred of a table that a closure answers.
+        let mut leads = [[ClassSet::NONE; 64]; 16];
+        for (feature, by) in self.by_feature.iter().enumerate() {
+            leads[feature] = by.leads(within);
+        }
+        leads
+    }
 }

@@ -2,5 +2,8 @@ use Rattle.std.proofs.Common.{◌≡◌, ℕ, ◌<◌, ◌↔◌, length}
 use Rattle.book.specs.Tables.{At}
 use Rattle.book.proofs.sealing.reflexive.Given as goal
 
-abbrev pub invariant-loop-a : goal.invariant-loop-a
-invariant-loop-a l = (length l.within ≡ 64) × ((A B : ℕ) → At l.within A B ↔ ((A ≡ B) × (A < l.a)))
+abbrev pub invariant-loop-class : goal.invariant-loop-class
+invariant-loop-class l = record {
+  long : length l.set-items ≡ 64;
+  alone : (A B : ℕ) → At l.set-items A B ↔ ((A ≡ B) × (A < l.class));
+}
