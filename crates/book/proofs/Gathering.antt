@@ -4,7 +4,6 @@ use Rattle.std.proofs.lemmas.Bool.{false≢true}
 use Rattle.classes.specs.declared.ClassSet.{ClassSet}
 use Rattle.classes.specs.Sets.{has, none}
 use Rattle.classes.proofs.Members.{has_none}
-use Rattle.book.specs.Tables.{At}
 use Rattle.book.specs.Sealing.{Gathering, Gathered}
 
 pub not_in_none : {P : Type 0} (B : ℕ) → has none B ≡ true → P

@@ -4,7 +4,6 @@ use mathlib.Core.List.Memᴰ
 use Rattle.std.proofs.lemmas.Bool.{and_parts, ltb-true, eqb-true, eqb-false, leb-true, or_cases, not-true, ltb-false, cases_Bool}
 use Rattle.std.proofs.lemmas.Bool.Decides.{nat_tests}
 use Rattle.terms.specs.declared.row.Row.{Row}
-use Rattle.terms.specs.declared.refusal.Refusal.{Refusal}
 use Rattle.terms.specs.declared.kind.RowKind.{RowKind}
 use Rattle.terms.specs.declared.kind.RowKind.TheVariants.{Subclass, Exclusion, Value, Pullback, Key}
 use Rattle.terms.specs.Kinds.{row_kind, row_number}

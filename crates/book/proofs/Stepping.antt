@@ -1,7 +1,7 @@
 -- Steps one after another, and the loop that takes classes from the waiting ones.
-use Rattle.std.proofs.Common.{◌≡◌, ℕ, ◌+◌, ◌*◌, ◌^◌, ◌<◌, true, false, not, ◌&&◌, ◌||◌, eqb, ltb, List, sym, ap, ◌∙◌, subst, inl, inr, arith}
+use Rattle.std.proofs.Common.{◌≡◌, ℕ, ◌+◌, ◌*◌, ◌^◌, ◌<◌, true, false, not, eqb, List, sym, ap, ◌∙◌, subst, inl, inr, arith}
 use lib.Bits.{or_zero_r}
-use Rattle.std.proofs.lemmas.Bool.{or_parts, and_cases, not-false, eqb-true, cases_eq, both_ways, and_from, eq-eqb, lt-ltb, or_left, or_right, cases_Bool}
+use Rattle.std.proofs.lemmas.Bool.{or_parts, and_cases, not-false, eqb-true, cases_eq, both_ways, cases_Bool}
 use Rattle.classes.specs.declared.ClassSet.{ClassSet}
 use Rattle.classes.specs.Sets.{has, none, joined, weight, Took}
 use Rattle.classes.proofs.Members.{has_joined, has_none, empty_none, extensional}

@@ -1,5 +1,5 @@
 -- A table that is sound, ordered, and has all that the rules pull back holds exactly the class steps.
-use Rattle.std.proofs.Common.{◌≡◌, ℕ, ◌+◌, ◌-◌, ◌*◌, ◌%◌, ◌<◌, ◌↔◌, List, sym, refl, ◌∙◌, subst, inl, inr, arith}
+use Rattle.std.proofs.Common.{◌≡◌, ℕ, ◌<◌, ◌↔◌, List, refl, ◌∙◌, subst, inl, inr}
 use Rattle.classes.specs.declared.ClassSet.{ClassSet}
 use Rattle.classes.specs.Sets.{none}
 use Rattle.classes.proofs.Members.{has_none}

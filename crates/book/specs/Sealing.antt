@@ -107,7 +107,7 @@ pub record Open (R : List Rule) (w : List ClassSet) (waiting : ClassSet) : Type 
   pub ready : Ready R w
   pub served : (A f : ℕ) → A < 64 → f < 16 → has waiting A ≡ false → Served R w A f
 
--- from a class of s by its link to a class, and on to r
+-- r has what the classes of s lead to by these links: from a class of s by a link to a class, and on to all that it lies within
 pub record Led (w ahead : List ClassSet) (s r : ClassSet) : Type 0 where
   pub from : (B : ℕ) → has r B ≡ true → (C : ℕ) × (D : ℕ) × (C < 64) × (has s C ≡ true) × At ahead C D × At w D B
   pub all : (C D B : ℕ) → has s C ≡ true → At ahead C D → At w D B → has r B ≡ true

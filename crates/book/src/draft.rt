@@ -46,7 +46,6 @@ impl Draft {
     pub fn seal(self) -> Book
         ensures { rows_of result ≡ listed self }
     {
-        let Draft { rows } = self;
-        Book::of(rows)
+        Book::of(self.rows)
     }
 }

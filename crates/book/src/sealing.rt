@@ -81,6 +81,7 @@ impl FeatureLinks {
     }
 }
 
+// The table is passed beside the links: a struct of both would have to say in each contract that the links stay.
 impl Links {
     // Adds what the rows of kind 1 say.
     fn climb(&self, within: &mut [ClassSet; 64])

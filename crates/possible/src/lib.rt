@@ -45,19 +45,29 @@ pub fn possible(
     Ok(found.is_none())
 }
 
-// Says whether no such world has an object in the class, in work areas of the right size.
-fn is_impossible(
-    book: &Book,
-    class: u8,
-    pairs: &mut [ClassPair; 4096],
-    parts: &mut [u8; 256],
-) -> bool
-    requires { class < 64 }
-    ensures { (result ≡ true) ↔ (Possible (rules_of (rows_of book.now)) class → ⊥) }
-{
-    match possible(book, class, pairs, parts) {
-        Ok(found) => !found,
-        Err(_) => false,
+// Work areas as large as `possible` asks.
+#[derive(Drop)]
+struct WorkAreas {
+    pairs: [ClassPair; 4096],
+    parts: [u8; 256],
+    ghost enough_pairs: { length pairs ≡ 4096 },
+    ghost enough_parts: { length parts ≡ 256 },
+}
+
+impl WorkAreas {
+    fn new() -> WorkAreas {
+        WorkAreas {
+            pairs: [ClassPair { left: 0, right: 0 }; 4096],
+            parts: [0; 256],
+        }
+    }
+
+    // Says whether no such world has an object in the class.
+    fn is_impossible(&mut self, book: &Book, class: u8) -> bool
+        requires { class < 64 }
+        ensures { (result ≡ true) ↔ (Possible (rules_of (rows_of book.now)) class → ⊥) }
+    {
+        possible(book, class, &mut self.pairs, &mut self.parts) == Ok(false)
     }
 }
 
@@ -65,11 +75,10 @@ fn is_impossible(
 pub fn impossible(book: &Book) -> ClassSet
     ensures { (A : ℕ) → (has result A ≡ true) ↔ ((A < 64) × (Possible (rules_of (rows_of book.now)) A → ⊥)) }
 {
-    let mut pairs = [ClassPair { left: 0, right: 0 }; 4096];
-    let mut parts = [0; 256];
+    let mut areas = WorkAreas::new();
     let mut found = ClassSet::NONE;
     for class in 0..64u8 {
-        if is_impossible(book, class, &mut pairs, &mut parts) {
+        if areas.is_impossible(book, class) {
             found.insert(class);
         }
     }

@@ -33,7 +33,7 @@ module _ (P : ℕ → Type 0) (s t : ClassSet) (n : ℕ) (low : n < 64) (old : (
   )
 
 pub loop-class-init : goal.loop-class-init
-loop-class-init c = (omega arith, omega arith, λ A. ((λ h. absurd (false≢true (sym (has_none A) ∙ h))), (λ p. let z = p.0 in absurd (omega arith))))
+loop-class-init c = λ A. ((λ h. absurd (false≢true (sym (has_none A) ∙ h))), (λ p. let z = p.0 in absurd (omega arith)))
 
 pub loop-class-preserved : goal.loop-class-preserved
 loop-class-preserved c =
@@ -41,15 +41,9 @@ loop-class-preserved c =
     let n = c.loop-class.class in
     let low = c.loop-class-test.true in
     let s = c.loop-class.found in
-    let t = c.if-is_impossible.found in (
-      c.is_impossible.array_long,
-      c.is_impossible.array_long2,
-      elim c.if-is_impossible.branch [
-        | then-is_impossible w ↦
-            settled never s t n low c.loop-class.invariant.2
-            (λ A. ap (λ (x : ClassSet). has x A) w.found-is ∙ w.insert.ensures A) (c.is_impossible.ensures.0 w.if-is_impossible.true)
-        | else-is_impossible w ↦
-            skipped never s t n low c.loop-class.invariant.2 w.found-is
-            (λ h. both_ways _ w.if-is_impossible.false (c.is_impossible.ensures.1 h))
-      ],
-    )
+    let t = c.if-is_impossible.found in
+    elim c.if-is_impossible.branch [
+      | then-is_impossible w ↦
+          settled never s t n low c.loop-class.invariant (λ A. ap (λ (x : ClassSet). has x A) w.found-is ∙ w.insert.ensures A) (c.is_impossible.ensures.0 w.if-is_impossible.true)
+      | else-is_impossible w ↦ skipped never s t n low c.loop-class.invariant w.found-is (λ h. both_ways _ w.if-is_impossible.false (c.is_impossible.ensures.1 h))
+    ]

@@ -1,14 +1,13 @@
-use Rattle.std.proofs.Common.{◌≡◌, ◌<◌, Bool, true, not, ◌↔◌, List, length, is_some, Some, None, Option, sym, refl, subst}
-use Rattle.std.proofs.lemmas.Bool.{lt-ltb, le-leb, and_from, not-false, not-true, both_ways}
+use Rattle.std.proofs.Common.{◌≡◌, ◌<◌, Bool, true, not, ◌↔◌, List, is_some, Some, None, Option, sym, subst}
+use Rattle.std.proofs.lemmas.Bool.{not-false, not-true, both_ways}
 use Rattle.classes.specs.declared.ClassSet.{ClassSet}
 use Rattle.terms.specs.Worlds.{rules_of}
 use Rattle.terms.specs.Verdicts.{Possible}
-use Rattle.terms.proofs.Asking.{answers}
 use Rattle.book.specs.declared.sealed.Book.{Book}
 use Rattle.book.specs.Books.{rows_of, within_set}
 use Rattle.search.specs.declared.Found.{Found}
 use Rattle.search.specs.Graph.{Answer}
-use Rattle.possible.specs.Questions.{Lone, possible_questions}
+use Rattle.possible.specs.Questions.{Lone}
 use Rattle.possible.proofs.Undoing.{no_path_possible, path_impossible}
 use Rattle.possible.proofs.possible.Goals as goal
 
@@ -20,15 +19,8 @@ told b A low P lone letters None v e a =
 told b A low P lone letters (Some k) v e a =
     ((λ h. absurd (both_ways v (not-true v (sym e)) h)), (λ p. absurd (path_impossible b A low P lone a.0 p)))
 
-pub returns : goal.returns
-returns c =
-    let low = c.if-class-ge64.false in
-    let h = c.in_ok-found.ensures.searched in
+pub returns-clause-truth : goal.returns-clause-truth
+returns-clause-truth c =
     let lone : Lone (within_set c.args.book.now c.args.class) c.lone_part.result =
     subst (λ (s : ClassSet). Lone s c.lone_part.result) c.within.ensures.value c.lone_part.ensures in
-    record {
-      answer = sym ((answers tt (possible_questions c.args.class (length c.args.pairs.now) (length c.args.parts.now)) _ refl).accepted.1
-          (lt-ltb _ _ low, (and_from _ _ (le-leb _ _ c.if-pairs-lt4096.false) (le-leb _ _ c.if-parts-lt256.false), tt)));
-      truth = told c.args.book.now c.args.class low c.lone_part.result lone c.search.new.letters c.in_ok-found.found c.is_none.result c.is_none.ensures h.1;
-      unchanged = tt;
-    }
+    told c.args.book.now c.args.class c.if-class-ge64.false c.lone_part.result lone c.search.new.letters c.in_ok-found.found c.is_none.result c.is_none.ensures c.in_ok-found.ensures.searched.1

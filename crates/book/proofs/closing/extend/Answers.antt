@@ -1,12 +1,10 @@
-use Rattle.std.proofs.Common.{◌≡◌, ◌==◌, ◌+◌, ◌≢◌, List, set, sym, ap, ◌∙◌, subst, arith}
+use Rattle.std.proofs.Common.{◌≡◌, ◌==◌, ◌≢◌, sym, ap, ◌∙◌, arith}
 use Rattle.std.proofs.lemmas.List.{length-set, set-get_or}
 use Rattle.std.proofs.lemmas.Bool.{not-true, not-false, both_ways, eqb-true, eq-eqb}
-use Rattle.classes.specs.declared.ClassSet.{ClassSet}
 use Rattle.classes.specs.Sets.{none, weight}
 use Rattle.classes.proofs.Members.{same_weight}
 use Rattle.book.specs.Tables.{set_at}
-use Rattle.book.specs.Sealing.{Extending, Heavier}
-use Rattle.book.proofs.Extending.{extend_none, heavier_none, extend_by_none, extend_same, extend_grown, extend_heavier, extend_all}
+use Rattle.book.proofs.Extending.{extend_by_none, extend_same, extend_grown, extend_heavier, extend_all}
 use Rattle.book.proofs.closing.extend.Goals as goal
 use Rattle.book.proofs.closing.extend.Goals.{then-ne, else-ne}
 
@@ -14,13 +12,6 @@ pub returns-then-is_empty-clause-extended : goal.returns-then-is_empty-clause-ex
 returns-then-is_empty-clause-extended c =
     let e = eqb-true (weight c.args.more) 0 (sym c.if-is_empty.ensures) in
     extend_by_none c.args.within.now c.args.a c.args.more e
-
-pub loop-class-init : goal.loop-class-init
-loop-class-init c = record {
-  long = omega arith;
-  extending = extend_none c.args.within.now c.args.a c.args.more;
-  heavier = heavier_none c.args.within.now;
-}
 
 pub loop-class-preserved : goal.loop-class-preserved
 loop-class-preserved c =

@@ -17,8 +17,3 @@ loop-class-preserved c R d so or =
         | inr ne ↦ p.grew A B (h.2 A B (omega arith) m)
       ],
     )
-
-pub returns : goal.returns
-returns c R d lo so or =
-    let h = c.loop-class.invariant R d so or in
-    record { sound = h.0; ordered = h.1; rules = λ A B m. h.2 A B (let z = lo _ m in omega arith) m }

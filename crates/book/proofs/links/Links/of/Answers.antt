@@ -1,7 +1,7 @@
 use Rattle.std.proofs.Common.{List, [], sym, subst}
-use Rattle.std.proofs.lemmas.List.{map_more, take_all}
+use Rattle.std.proofs.lemmas.List.{map_more}
 use Rattle.terms.specs.declared.row.Row.{Row}
-use Rattle.terms.specs.Worlds.{Rule, rule_of, rules_of}
+use Rattle.terms.specs.Worlds.{Rule, rule_of}
 use Rattle.book.specs.Sealing.{Direct}
 use Rattle.book.proofs.Legal.{lawful_at}
 use Rattle.book.proofs.links.Links.of.Goals as goal
@@ -16,8 +16,3 @@ pub loop-row-preserved : goal.loop-row-preserved
 loop-row-preserved c =
     subst (λ (R : List Rule). Direct R c.add.new.self) (sym (map_more rule_of c.args.rows.now c.loop-row.row-index blank c.loop-row-test.true))
     (c.add.ensures _ c.loop-row.invariant)
-
-pub returns : goal.returns
-returns c =
-    subst (λ (rows : List Row). Direct (rules_of rows) c.loop-row.links) (take_all c.loop-row.row-index c.args.rows.now c.loop-row-test.false)
-    c.loop-row.invariant

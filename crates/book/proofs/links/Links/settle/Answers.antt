@@ -2,11 +2,8 @@ use Rattle.std.proofs.Common.{◌≡◌, ◌+◌, ◌*◌, ◌^◌, ◌<◌, sym
 use Rattle.classes.specs.declared.ClassSet.{ClassSet}
 use Rattle.classes.specs.Sets.{joined, weight}
 use Rattle.book.specs.Sealing.{Open, missing}
-use Rattle.book.proofs.Stepping.{open_first, open_next, measure_less}
+use Rattle.book.proofs.Stepping.{open_next, measure_less}
 use Rattle.book.proofs.links.Links.settle.Goals as goal
-
-pub loop-a-init : goal.loop-a-init
-loop-a-init c = (omega arith, λ R d lo r. open_first R c.args.within.now c.every_class-waiting.result c.every_class-waiting.ensures r)
 
 pub loop-a-smaller : goal.loop-a-smaller
 loop-a-smaller c =

@@ -1,6 +1,4 @@
-use Rattle.std.proofs.Common.{sym, ap, ◌∙◌, arith}
-use Rattle.classes.specs.declared.ClassSet.{ClassSet}
-use Rattle.classes.specs.Sets.{has, joined}
+use Rattle.std.proofs.Common.{arith}
 use Rattle.book.proofs.Stepping.{step_then, heavier_then, served_more}
 use Rattle.book.proofs.links.Links.visit.Goals as goal
 
