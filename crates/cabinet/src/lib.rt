@@ -121,11 +121,12 @@ mod tests {
     use crate::shift::{begin, end, knows, note};
     use std::mem::size_of;
     use std::test::Fail;
+    use terms::kind::FactKind;
 
     // The part is in class 5.
     fn in_class_5(part: u8) -> Fact {
         Fact {
-            kind: 1,
+            kind: FactKind::InClass as u8,
             first: part,
             second: 5,
             third: 0,
@@ -144,10 +145,8 @@ mod tests {
         assert_eq!(rt; log.tell(in_class_5(3)), Ok(Told::Added));
         assert_eq!(rt; log.tell(in_class_5(3)), Ok(Told::Already));
         let unlawful = Fact {
-            kind: 1,
-            first: 3,
             second: 64,
-            third: 0,
+            ..in_class_5(3)
         };
         assert_eq!(rt; log.tell(unlawful), Err(Refusal::ClassTooHigh));
         assert_eq!(rt; log.count(), 1);

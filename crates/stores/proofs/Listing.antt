@@ -1,9 +1,8 @@
 -- Lists of facts: what stands at a place, and whether a fact is listed.
-use Rattle.std.proofs.Common.{◌≡◌, ℕ, zero, suc, ◌-◌, ◌<◌, ◌≤◌, Bool, true, false, ◌||◌, eqb, ◌⊎◌, List, [], ◌∷◌, ◌++◌, length, get_or, Some, sym, refl, ap, ◌∙◌, subst, inl, inr, MatchBool, arith}
+use Rattle.std.proofs.Common.{◌≡◌, ℕ, zero, suc, ◌-◌, ◌<◌, ◌≤◌, Bool, true, false, eqb, ◌⊎◌, List, [], ◌∷◌, ◌++◌, length, get_or, Some, sym, refl, ap, ◌∙◌, subst, inl, inr, MatchBool, arith}
 use mathlib.Core.List.Memᴰ
 use Rattle.std.specs.List.{slice_get, range_with_len, HoldsAt, AllWithin}
 use Rattle.std.proofs.lemmas.Option.{slice_get_within}
-use Rattle.std.proofs.lemmas.List.Folds.{list_any-append}
 use Rattle.std.proofs.lemmas.List.FromFn.{length-range_with_len, get_or-range_with_len}
 use Rattle.std.proofs.lemmas.Bool.{and_parts, and_from, cases_Bool, or_cases, or_left, or_right, eqb-true, eq-eqb}
 use Rattle.terms.specs.declared.fact.Fact.{Fact}
@@ -76,10 +75,6 @@ nth_upper (g ∷ facts) more zero l = absurd (omega arith)
 nth_upper (g ∷ facts) more (suc i) l =
     let e : suc i - suc (length facts) ≡ i - length facts = omega arith in
     nth_upper facts more i (omega arith) ∙ ap (slice_get more) (sym e)
-
--- a fact is listed by two lists when one of them lists it
-pub listed_both : (facts more : List Fact) (f : Fact) → listed (facts ++ more) f ≡ (listed facts f || listed more f)
-listed_both facts more f = list_any-append (λ (g : Fact). same_fact g f) facts more
 
 -- a scan of all places
 pub listed_scan : (facts : List Fact) (f : Fact) (n : ℕ) (r : Bool) → n ≡ length facts
