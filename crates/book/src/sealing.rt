@@ -41,16 +41,6 @@ fn reflexive() -> [ClassSet; 64]
     within
 }
 
-fn every_class() -> ClassSet
-    ensures { (k : ℕ) → k < 64 → has result k ≡ true }
-{
-    let mut all = ClassSet::NONE;
-    for a in 0..64u8 {
-        all.insert(a);
-    }
-    all
-}
-
 impl FeatureLinks {
     // Adds what the rows of kind 4 pull back to `a` along the feature; the answer has the classes to look at again.
     fn pull(&self, within: &mut [ClassSet; 64], into: &[ClassSet; 64], a: u8) -> ClassSet
@@ -110,7 +100,7 @@ impl Links {
     fn settle(&self, within: &mut [ClassSet; 64])
         ensures { (R : List Rule) → Direct R self.now → RulesLegal R → Ready R within.old → Open R within.new none }
     {
-        let mut waiting = every_class();
+        let mut waiting = ClassSet::ALL;
         while let Some(a) = waiting.take_lowest() {
             waiting = waiting.union(self.visit(within, a));
         }

@@ -34,7 +34,7 @@ lead_low : (b : Book) (x f c : ℕ) → Lead b x f c → f < 16
 lead_low b x f c h = elim (cases_lt f 16) [
   | inl l ↦ l
   | inr g ↦
-      let e : leads_set b x f ≡ none = cond-false (ltb x 64 && ltb f 16) _ none (and_right (ltb x 64) (ltb f 16) (le-ltb f 16 g)) in
+      let e : leads_set b x f ≡ none = cond-false (ltb x 64 && ltb f 16) (set_at b.leads (64 * f + x)) none (and_right (ltb x 64) (ltb f 16) (le-ltb f 16 g)) in
       absurd (false≢true (sym (has_none c) ∙ ap (λ (s : ClassSet). has s c) (sym e) ∙ h))
 ]
 
