@@ -5,6 +5,7 @@ use classes::ClassSet;
 use possible::possible;
 use search::{ClassPair, Found, search};
 use terms::example::example;
+use terms::kind::RowKind;
 use terms::refusal::Refusal;
 use terms::row::Row;
 
@@ -12,7 +13,7 @@ const PAIR: ClassPair = ClassPair { left: 0, right: 0 };
 
 fn value(left: u8, feature: u8, right: u8) -> Row {
     Row {
-        kind: 3,
+        kind: RowKind::Value as u8,
         left,
         right,
         count: 1,
@@ -22,11 +23,10 @@ fn value(left: u8, feature: u8, right: u8) -> Row {
 
 fn exclusion(left: u8, right: u8) -> Row {
     Row {
-        kind: 2,
+        kind: RowKind::Exclusion as u8,
         left,
         right,
-        count: 0,
-        features: [0; 4],
+        ..Row::default()
     }
 }
 
@@ -137,6 +137,6 @@ fn every_letter_of_29(rt: HostRuntime) {
     };
     assert_eq!(rt; found, Ok(Some(clash)));
     for k in 0..29u8 {
-        assert_eq!(rt; letters[k as usize], k * 7 % 16);
+        assert_eq!(rt; letters[usize::from(k)], k * 7 % 16);
     }
 }

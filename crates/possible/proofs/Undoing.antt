@@ -29,11 +29,11 @@ module _ (b : Book) where
   legal : RulesLegal (rules_of (rows_of b))
   legal = rules_legal (rows_of b) b.lawful
 
-  module _ (t : Steps (rules_of (rows_of b)) b.within b.leads) where
+  module _ (t : Steps (rules_of (rows_of b)) b.tables.within b.tables.leads) where
     lead_to : {A f B : ℕ} → Leads (rules_of (rows_of b)) A f B → Lead b A f B
     lead_to {A} {f} {B} l =
         let r = leads_range legal l in
-        ap (λ (s : ClassSet). has s B) (cond-true _ (set_at b.leads (64 * f + A)) none (and_from _ _ (lt-ltb _ _ r.0) (lt-ltb _ _ r.1)))
+        ap (λ (s : ClassSet). has s B) (cond-true _ _ none (and_from _ _ (lt-ltb _ _ r.0) (lt-ltb _ _ r.1)))
         ∙ (t.leads_is A f B r.0 r.1).1 l
 
     lead_from : {A f B : ℕ} → Lead b A f B → Leads (rules_of (rows_of b)) A f B
@@ -42,8 +42,8 @@ module _ (b : Book) where
           | inl e ↦
               let p = and_parts _ _ e in
               (t.leads_is A f B (ltb-true _ _ p.0) (ltb-true _ _ p.1)).0
-              (ap (λ (s : ClassSet). has s B) (sym (cond-true _ (set_at b.leads (64 * f + A)) none e)) ∙ h)
-          | inr e ↦ in_none B (ap (λ (s : ClassSet). has s B) (sym (cond-false _ (set_at b.leads (64 * f + A)) none e)) ∙ h)
+              (ap (λ (s : ClassSet). has s B) (sym (cond-true _ _ none e)) ∙ h)
+          | inr e ↦ in_none B (ap (λ (s : ClassSet). has s B) (sym (cond-false _ _ none e)) ∙ h)
         ]
 
     way_to : {A B : ℕ} {w : List ℕ} → paths.Way (rules_of (rows_of b)) A w B → Way b A w B
@@ -55,8 +55,8 @@ module _ (b : Book) where
     way_from (go l s) = paths.go (lead_from l) (way_from s)
 
     module _ (A : ℕ) (low : A < 64) (P : List ClassSet) (lone : Lone (within_set b A) P) where
-      its : within_set b A ≡ set_at b.within A
-      its = cond-true _ (set_at b.within A) none (lt-ltb _ _ low)
+      its : within_set b A ≡ set_at b.tables.within A
+      its = cond-true _ (set_at b.tables.within A) none (lt-ltb _ _ low)
 
       in_to : {B : ℕ} → Within (rules_of (rows_of b)) A B → At P 0 B
       in_to {B} w = ap (λ (s : ClassSet). has s B) (lone.here ∙ its) ∙ (t.within_is A B low).1 w

@@ -4,13 +4,15 @@ ghost use Rattle.search.specs.Rows.{Bars, Excluding};
 
 use crate::ClassPair;
 use book::sealed::Book;
+use terms::kind::RowKind;
 use terms::row::Row;
 
 // Whether the row excludes the pair, whichever class it names first.
 fn bars(row: &Row, pair: ClassPair) -> bool
     ensures { IsTrue result ↔ Bars row.now pair }
 {
-    row.kind == 2 && ClassPair::of(row.left, row.right) == pair
+    RowKind::try_from(row.kind) == Ok(RowKind::Exclusion)
+        && ClassPair::of(row.left, row.right) == pair
 }
 
 // The first row that excludes the pair.

@@ -67,6 +67,7 @@ impl<'a> Walk<'a> {
     }
 
     // Meets every two classes of one part, up to the first that a row excludes.
+    // Its loops over two classes stand in `hunt` too, whose loops have to be nested in one function so that its label leaves them.
     fn seed(&mut self) -> Option<Excluded>
         requires { Begun self.old }
         ensures same { Same self.old self.new }
