@@ -5,13 +5,8 @@ use Rattle.terms.specs.declared.row.Row.{Row}
 use Rattle.terms.specs.declared.refusal.Refusal.{Refusal}
 use Rattle.terms.specs.Refusals.{Question, asked, numbered}
 use Rattle.terms.proofs.Asking.{answers, asked_on, asked_no}
-use Rattle.book.specs.Drafts.{rule_questions, grown}
+use Rattle.book.specs.Drafts.{grown}
 use Rattle.records.specs.Records.{Refused, rule_marked, row_in, record_questions, at_record, onward, rule_group}
-
--- a record that was read is whole, and the row is the record's
-pub read_whole : (b : Bool) (x y : Row) → ◌≡◌ {A = Result Row ℕ} (Ok x) (cond b (Ok y) (Err 12)) → (b ≡ true) × (x ≡ y)
-read_whole true x y e = (refl, cc)
-read_whole false x y e = let z : ◌≡◌ {A = ℕ} 0 1 = cc in absurd (omega arith)
 
 -- the mark is two bytes
 pub marked_two : (bytes : List ℕ) → rule_marked bytes ≡ true → 2 ≤ length bytes
@@ -41,10 +36,6 @@ grown_there rows row (Ok x) k v e = refl
 grown_there rows row (Err f) k v e = let z : ◌≡◌ {A = ℕ} 0 1 = cc in absurd (omega arith)
 
 module _ (rows : List Row) (bytes : List ℕ) where
-  -- the questions of a whole record are those of its row
-  pub whole_asked : {A : Type 0} (x : A) → leb 10 (length bytes) ≡ true → asked (record_questions rows bytes) x ≡ asked (rule_questions rows (row_in bytes)) x
-  whole_asked x h = ap (λ (b : Bool). cond b (asked (rule_questions rows (row_in bytes)) x) (Err 12)) h
-
   -- no record stands there
   pub group_ends : (n : ℕ) → rule_marked bytes ≡ false → rule_group n rows bytes ≡ Ok (record { rows = rows; rest = bytes })
   unfolding rule_group

@@ -1,4 +1,4 @@
-use Rattle.std.proofs.Common.{◌≡◌, [], List, ◌∷◌, ◌++◌, ℕ, decimal, ap, sym, refl, ◌∙◌, append-nil, append_assoc}
+use Rattle.std.proofs.Common.{[], List, ◌∷◌, ◌++◌, ℕ, decimal, ap, sym, refl, ◌∙◌, append-nil, append_assoc}
 use Rattle.std.proofs.Output.{has_written_append, has_written_of_eq}
 use Rattle.classes.specs.declared.ClassSet.{ClassSet}
 use Rattle.classes.specs.Sets.{has}
@@ -15,9 +15,11 @@ loop-class-preserved g c = λ p.
     let before = c.loop-class.invariant p in
     let number = 32 ∷ decimal c.in-Some.class in
     let wrote = has_written_append _ _ _ _ number _ before.1 (c.in_ok-write.ensures.writes before.1.plain refl) in
-    let split = first_number _ _ _ c.in-Some.ensures.steps in
-    (before.0 ++ number, wrote,
-     append_assoc before.0 number (numbers (has c.next.new.self.rest)) ∙ ap (λ (xs : List ℕ). before.0 ++ xs) (sym split) ∙ before.2)
+    let split = first_number _ _ _ c.in-Some.ensures.steps in (
+      before.0 ++ number,
+      wrote,
+      append_assoc before.0 number (numbers (has c.next.new.self.rest)) ∙ ap (λ (xs : List ℕ). before.0 ++ xs) (sym split) ∙ before.2,
+    )
 
 pub returns-clause-writes : goal.returns-clause-writes
 returns-clause-writes g c = λ p _.
