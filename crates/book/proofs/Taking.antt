@@ -1,5 +1,5 @@
 -- What rule answers, and its law.
-use Rattle.std.proofs.Common.{◌≡◌, ℕ, true, List, [], ◌∷◌, ◌++◌, length, Ok, Err, Result, sym, refl, ap, arith}
+use Rattle.std.proofs.Common.{◌≡◌, ℕ, true, List, [], ◌∷◌, ◌++◌, length, Ok, Err, Result, sym, refl, ap}
 use Rattle.std.proofs.lemmas.Bool.{and_from, and_parts, lt-ltb, ltb-true}
 use Rattle.terms.specs.declared.row.Row.{Row}
 use Rattle.terms.specs.declared.refusal.Refusal.{Refusal}

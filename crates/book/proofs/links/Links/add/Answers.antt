@@ -1,4 +1,4 @@
-use Rattle.std.proofs.Common.{◌≡◌, sym, refl, ap, ◌∙◌, inl, inr, arith}
+use Rattle.std.proofs.Common.{sym, refl, ap, ◌∙◌, inl, inr, arith}
 use Rattle.terms.specs.Kinds.{row_number}
 use Rattle.book.proofs.Legal.{lawful_classes, lawful_feature, kind_number, rule_1, rule_3, rule_4, exclusion_silent, keyed_silent}
 use Rattle.book.proofs.Linking.{push_as, adds_none, adds_sub, adds_val, adds_pull}
