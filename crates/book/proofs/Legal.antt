@@ -1,7 +1,7 @@
 -- The classes and features of lawful rows, and of the rules that they say.
-use Rattle.std.proofs.Common.{◌≡◌, ℕ, zero, suc, ◌+◌, ◌<◌, ◌≤◌, Bool, true, false, cond, ◌&&◌, eqb, ltb, leb, ◌⊎◌, List, [], ◌∷◌, length, get_or, Ok, sym, refl, ap, ◌∙◌, subst, inl, inr, arith}
+use Rattle.std.proofs.Common.{◌≡◌, ℕ, zero, suc, ◌+◌, ◌<◌, ◌≤◌, Bool, true, cond, ◌&&◌, eqb, ltb, leb, ◌⊎◌, List, [], ◌∷◌, length, get_or, Ok, sym, refl, ap, ◌∙◌, subst, inl, inr, arith}
 use mathlib.Core.List.Memᴰ
-use Rattle.std.proofs.lemmas.Bool.{and_parts, ltb-true, eqb-true, eqb-false, leb-true, or_cases, not-true, ltb-false, cases_Bool}
+use Rattle.std.proofs.lemmas.Bool.{and_parts, ltb-true, eqb-true, leb-true, or_cases, not-true, ltb-false, cases_eq}
 use Rattle.std.proofs.lemmas.Bool.Decides.{nat_tests}
 use Rattle.terms.specs.declared.row.Row.{Row}
 use Rattle.terms.specs.declared.kind.RowKind.{RowKind}
@@ -61,6 +61,9 @@ rule_3 r e = rw e
 pub rule_4 : (r : Row) → r.kind ≡ 4 → rule_of r ≡ pullback (feature_at r 0) r.left r.right
 rule_4 r e = rw e
 
+rule_5 : (r : Row) → r.kind ≡ 5 → rule_of r ≡ key r.left r.right (features_from r 0 r.count)
+rule_5 r e = rw e
+
 -- the number of a kind
 pub kind_number : (n : ℕ) (k : RowKind) → row_kind n ≡ Ok k → n ≡ row_number k
 kind_number n Subclass e = grind (arith, nat_tests)
@@ -77,37 +80,23 @@ pub record Silent (y : Rule) : Type 0 where
 
 key_silent : (A B : ℕ) (fs : List ℕ) → Silent (key A B fs)
 key_silent A B fs = record {
-  no_sub = λ C D e. let z : ◌≡◌ {A = ℕ} 0 1 = cc in omega arith;
-  no_val = λ C f D e. let z : ◌≡◌ {A = ℕ} 0 1 = cc in omega arith;
-  no_pull = λ f C D e. let z : ◌≡◌ {A = ℕ} 0 1 = cc in omega arith;
+  no_sub = λ C D e. cc;
+  no_val = λ C f D e. cc;
+  no_pull = λ f C D e. cc;
 }
 
 disjoint_silent : (A B : ℕ) → Silent (disjoint A B)
 disjoint_silent A B = record {
-  no_sub = λ C D e. let z : ◌≡◌ {A = ℕ} 0 1 = cc in omega arith;
-  no_val = λ C f D e. let z : ◌≡◌ {A = ℕ} 0 1 = cc in omega arith;
-  no_pull = λ f C D e. let z : ◌≡◌ {A = ℕ} 0 1 = cc in omega arith;
+  no_sub = λ C D e. cc;
+  no_val = λ C f D e. cc;
+  no_pull = λ f C D e. cc;
 }
 
-pub rule_silent : (r : Row) → eqb r.kind 1 ≡ false → eqb r.kind 3 ≡ false → eqb r.kind 4 ≡ false → Silent (rule_of r)
-rule_silent r a b d =
-    rw a (elim (cases_Bool (eqb r.kind 2)) [
-      | inl e ↦ rw e (disjoint_silent r.left r.right)
-      | inr e ↦ rw e (rw b (rw d (key_silent r.left r.right (features_from r 0 r.count))))
-    ])
+pub exclusion_silent : (r : Row) → r.kind ≡ 2 → Silent (rule_of r)
+exclusion_silent r e = subst Silent (sym (rule_2 r e)) (disjoint_silent r.left r.right)
 
--- the rule of a key
-rule_5 : (r : Row) → kind_known r ≡ true → eqb r.kind 1 ≡ false → eqb r.kind 2 ≡ false → eqb r.kind 3 ≡ false → eqb r.kind 4 ≡ false
-    → (r.kind ≡ 5) × (rule_of r ≡ key r.left r.right (features_from r 0 r.count))
-rule_5 r k a b c d =
-    let p = and_parts (leb 1 r.kind) (leb r.kind 5) k in
-    let l = leb-true _ _ p.0 in
-    let h = leb-true _ _ p.1 in
-    let na = eqb-false _ _ a in
-    let nb = eqb-false _ _ b in
-    let nc = eqb-false _ _ c in
-    let nd = eqb-false _ _ d in
-    (omega arith, rw (a, b, c, d))
+pub keyed_silent : (r : Row) → r.kind ≡ 5 → Silent (rule_of r)
+keyed_silent r e = subst Silent (sym (rule_5 r e)) (key_silent r.left r.right (features_from r 0 r.count))
 
 -- the features in use of a lawful row are low
 features_in : (r : Row) (n k f : ℕ) → k + n ≤ r.count → r.count ≤ 4 → features_low r ≡ true → f ∈ features_from r k n → f < 16
@@ -126,39 +115,45 @@ some_feature : (r : Row) (n k : ℕ) → 1 ≤ n → Nonempty (features_from r k
 some_feature r zero k h = absurd (omega arith)
 some_feature r (suc n) k h = tt
 
--- the rule of a lawful row is within the limits
-row_legal : (r : Row) → lawful r ≡ true → RuleLegal (rule_of r)
-row_legal r g =
-    let p = lawful_classes r g in
-    elim (cases_Bool (eqb r.kind 1)) [
-      | inl a ↦ subst RuleLegal (sym (rule_1 r (eqb-true _ _ a))) p
-      | inr a ↦
-          elim (cases_Bool (eqb r.kind 2)) [
-            | inl b ↦ subst RuleLegal (sym (rule_2 r (eqb-true _ _ b))) p
-            | inr b ↦
-                elim (cases_Bool (eqb r.kind 3)) [
-                  | inl c ↦ let e = eqb-true _ _ c in subst RuleLegal (sym (rule_3 r e)) (p.0, lawful_feature r 3 g e (inl refl), p.1)
-                  | inr c ↦
-                      elim (cases_Bool (eqb r.kind 4)) [
-                        | inl d ↦ let e = eqb-true _ _ d in subst RuleLegal (sym (rule_4 r e)) (lawful_feature r 4 g e (inr refl), p.0, p.1)
-                        | inr d ↦ keyed_legal a b c d p
-                      ]
+-- the kind of a lawful row
+kind_in : (r : Row) → lawful r ≡ true → (k : RowKind) × (r.kind ≡ row_number k)
+kind_in r g =
+    let p = and_parts (leb 1 r.kind) (leb r.kind 5) (and_parts (kind_known r) _ g).0 in
+    let l = leb-true _ _ p.0 in
+    let h = leb-true _ _ p.1 in
+    elim (cases_eq r.kind 1) [
+      | inl e ↦ (Subclass, e)
+      | inr n1 ↦
+          elim (cases_eq r.kind 2) [
+            | inl e ↦ (Exclusion, e)
+            | inr n2 ↦
+                elim (cases_eq r.kind 3) [
+                  | inl e ↦ (Value, e)
+                  | inr n3 ↦ elim (cases_eq r.kind 4) [ inl e ↦ (Pullback, e) | inr n4 ↦ (Key, omega arith) ]
                 ]
           ]
     ]
+
+-- the rule of a lawful row is within the limits
+row_legal : (r : Row) → lawful r ≡ true → RuleLegal (rule_of r)
+row_legal r g = let t = kind_in r g in by t.0 t.1
   where
-    keyed_legal : eqb r.kind 1 ≡ false → eqb r.kind 2 ≡ false → eqb r.kind 3 ≡ false → eqb r.kind 4 ≡ false
-        → (r.left < 64) × (r.right < 64) → RuleLegal (rule_of r)
-    keyed_legal a b c d p =
-        let k = and_parts (kind_known r) _ g in
-        let l = and_parts (classes_low r) _ k.1 in
+    p : (r.left < 64) × (r.right < 64)
+    p = lawful_classes r g
+
+    by : (k : RowKind) → r.kind ≡ row_number k → RuleLegal (rule_of r)
+    by Subclass e = subst RuleLegal (sym (rule_1 r e)) p
+    by Exclusion e = subst RuleLegal (sym (rule_2 r e)) p
+    by Value e = subst RuleLegal (sym (rule_3 r e)) (p.0, lawful_feature r 3 g e (inl refl), p.1)
+    by Pullback e = subst RuleLegal (sym (rule_4 r e)) (lawful_feature r 4 g e (inr refl), p.0, p.1)
+    by Key e =
+        let l = and_parts (classes_low r) _ (and_parts (kind_known r) _ g).1 in
         let h = and_parts (features_low r) _ l.1 in
-        let e = rule_5 r k.0 a b c d in
-        let n : counted 5 r.count ≡ true = ap (λ (x : ℕ). counted x r.count) (sym e.0) ∙ (and_parts (count_fits r) _ h.1).0 in
+        let n : counted 5 r.count ≡ true = ap (λ (x : ℕ). counted x r.count) (sym e) ∙ (and_parts (count_fits r) _ h.1).0 in
         let q = and_parts (leb 1 r.count) (leb r.count 4) n in
         let least = leb-true _ _ q.0 in
         let most = leb-true _ _ q.1 in
-        subst RuleLegal (sym e.1)
+        subst RuleLegal (sym (rule_5 r e))
         (p.0, p.1, (λ f m. features_in r r.count 0 f (omega arith) most h.0 m), some_feature r r.count 0 least)
 
 pub rules_legal : (rows : List Row) → all_lawful rows ≡ true → RulesLegal (rules_of rows)

@@ -1,7 +1,6 @@
-use Rattle.std.proofs.Common.{◌≡◌, sym, refl, ap, ◌∙◌, inl, inr, arith}
-use Rattle.std.proofs.lemmas.Bool.{ne_eqb}
+use Rattle.std.proofs.Common.{sym, refl, ap, ◌∙◌, inl, inr, arith}
 use Rattle.terms.specs.Kinds.{row_number}
-use Rattle.book.proofs.Legal.{lawful_classes, lawful_feature, kind_number, rule_1, rule_3, rule_4, rule_silent}
+use Rattle.book.proofs.Legal.{lawful_classes, lawful_feature, kind_number, rule_1, rule_3, rule_4, exclusion_silent, keyed_silent}
 use Rattle.book.proofs.Linking.{push_as, adds_none, adds_sub, adds_val, adds_pull}
 use Rattle.book.proofs.links.Links.add.Goals as goal
 
@@ -49,8 +48,6 @@ returns-in-Exclusion c R d =
     let row = c.args.row in
     let n = kind_number row.kind c.in-Ok.kind (sym c.try_from.ensures ∙ c.in-Ok.is) in
     elim c.in-Exclusion.is [
-      | inl e ↦ let k : row.kind ≡ 2 = n ∙ ap row_number e in
-          push_as R _ _ c.args.self.now _ refl (adds_none _ c.args.self.now (rule_silent row (ne_eqb _ 1 (omega arith)) (ne_eqb _ 3 (omega arith)) (ne_eqb _ 4 (omega arith)))) d
-      | inr e ↦ let k : row.kind ≡ 5 = n ∙ ap row_number e in
-          push_as R _ _ c.args.self.now _ refl (adds_none _ c.args.self.now (rule_silent row (ne_eqb _ 1 (omega arith)) (ne_eqb _ 3 (omega arith)) (ne_eqb _ 4 (omega arith)))) d
+      | inl e ↦ push_as R _ _ c.args.self.now _ refl (adds_none _ c.args.self.now (exclusion_silent row (n ∙ ap row_number e))) d
+      | inr e ↦ push_as R _ _ c.args.self.now _ refl (adds_none _ c.args.self.now (keyed_silent row (n ∙ ap row_number e))) d
     ]
