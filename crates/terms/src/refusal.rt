@@ -31,14 +31,12 @@ impl Refusal {
     {
         self as u8
     }
-}
 
-// A refusal in plain words.
-impl fmt::Display for Refusal {
-    ghost output = { λ r. Some (reason r) };
-
-    fn fmt<W: fmt::Write>(&self, f: &mut fmt::Formatter<W>) -> fmt::Result {
-        f.write_str(match self {
+    // The refusal in plain words.
+    pub fn reason(self) -> &'static str
+        ensures { result.now ≡ reason self }
+    {
+        match self {
             Refusal::UnknownKind => "the kind is not known",
             Refusal::ClassTooHigh => "a class is not below 64",
             Refusal::FeatureTooHigh => "a feature in use or a letter is not below 16",
@@ -60,6 +58,14 @@ impl fmt::Display for Refusal {
             Refusal::MarkNotAllowed => "the mark is not allowed here",
             Refusal::FactNotNew => "the factory fact is not new",
             Refusal::InputTooLong => "the input is not shorter than 32768 bytes",
-        })
+        }
+    }
+}
+
+impl fmt::Display for Refusal {
+    ghost output = { λ r. Some (reason r) };
+
+    fn fmt<W: fmt::Write>(&self, f: &mut fmt::Formatter<W>) -> fmt::Result {
+        f.write_str(self.reason())
     }
 }
