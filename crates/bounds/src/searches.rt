@@ -9,8 +9,6 @@ use terms::kind::RowKind;
 use terms::refusal::Refusal;
 use terms::row::Row;
 
-const PAIR: ClassPair = ClassPair { left: 0, right: 0 };
-
 fn value(left: u8, feature: u8, right: u8) -> Row {
     Row {
         kind: RowKind::Value as u8,
@@ -49,7 +47,7 @@ fn example_book() -> Book {
 #[test]
 fn class_0_of_the_example_is_impossible(rt: HostRuntime) {
     let book = example_book();
-    let mut pairs = [PAIR; 4096];
+    let mut pairs = [ClassPair::default(); 4096];
     let mut parts = [0; 256];
     assert_eq!(rt; possible(&book, 0, &mut pairs, &mut parts), Ok(false));
     assert_eq!(rt; possible(&book, 1, &mut pairs, &mut parts), Ok(true));
@@ -63,7 +61,7 @@ fn class_0_of_the_example_is_impossible(rt: HostRuntime) {
 #[test]
 fn work_areas(rt: HostRuntime) {
     let book = example_book();
-    let mut pairs = [PAIR; 4096];
+    let mut pairs = [ClassPair::default(); 4096];
     let mut parts = [0; 256];
     assert_eq!(rt;
         possible(&book, 1, &mut pairs[0..4095], &mut parts),
@@ -98,7 +96,7 @@ fn a_word_of_1022_letters(rt: HostRuntime) {
     let found = search(
         &in_two(0, 31),
         &two_cycles(),
-        &mut [PAIR; 4096],
+        &mut [ClassPair::default(); 4096],
         &mut letters,
     );
     let clash = Found {
@@ -127,7 +125,7 @@ fn every_letter_of_29(rt: HostRuntime) {
     let found = search(
         &in_two(0, 30),
         &two_chains(),
-        &mut [PAIR; 4096],
+        &mut [ClassPair::default(); 4096],
         &mut letters,
     );
     let clash = Found {

@@ -30,7 +30,7 @@ fn seal_once(input: &[u8]) -> anyhow::Result<usize> {
 // One reading, sealing and asking: is class 0 possible?
 fn ask_once(input: &[u8]) -> anyhow::Result<usize> {
     let book = sealed(input)?;
-    let mut pairs = [ClassPair { left: 0, right: 0 }; 4096];
+    let mut pairs = [ClassPair::default(); 4096];
     let mut parts = [0; 256];
     let answer = possible(&book, 0, &mut pairs, &mut parts).ok();
     Ok(usize::from(answer.context("the question is refused")?))

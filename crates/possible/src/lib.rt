@@ -57,7 +57,7 @@ struct WorkAreas {
 impl WorkAreas {
     fn new() -> WorkAreas {
         WorkAreas {
-            pairs: [ClassPair { left: 0, right: 0 }; 4096],
+            pairs: [ClassPair::default(); 4096],
             parts: [0; 256],
         }
     }

@@ -15,7 +15,7 @@ mod trail;
 mod walk;
 
 // A pair of classes, the lower first.
-#[derive(Clone, Copy, PartialEq, Eq, Debug)]
+#[derive(Clone, Copy, Default, PartialEq, Eq, Debug)]
 pub struct ClassPair {
     pub left: u8,
     pub right: u8,
