@@ -1,11 +1,10 @@
 -- The paths from one part in one class are the ways by which a class is undone.
-use Rattle.std.proofs.Common.{◌≡◌, ℕ, zero, suc, ◌+◌, ◌*◌, ◌<◌, true, ◌&&◌, ltb, List, sym, ap, ◌∙◌, inl, inr}
+use Rattle.std.proofs.Common.{◌≡◌, ℕ, zero, suc, ◌<◌, ◌&&◌, ltb, List, sym, ap, ◌∙◌, inl, inr}
 use mathlib.Core.HLevel.{⊥_prop}
 use mathlib.Core.Logic.{∥∥₁_elim, ∥∥₁_prop}
-use Rattle.std.proofs.lemmas.Bool.{and_from, and_parts, lt-ltb, ltb-true, cases_Bool, false≢true, cond-true, cond-false}
+use Rattle.std.proofs.lemmas.Bool.{and_from, and_parts, lt-ltb, ltb-true, cases_Bool, cond-true, cond-false}
 use Rattle.classes.specs.declared.ClassSet.{ClassSet}
 use Rattle.classes.specs.Sets.{has, none}
-use Rattle.classes.proofs.Members.{has_none}
 use Rattle.terms.specs.Worlds.{rules_of}
 use Rattle.terms.specs.Steps.{Within, Leads}
 use Rattle.terms.specs.Verdicts.{Possible}
@@ -20,10 +19,8 @@ use Rattle.book.specs.Tables.{set_at, At, Steps}
 use Rattle.book.proofs.Legal.{rules_legal}
 use Rattle.book.proofs.Reading.{legal_rules, decided}
 use Rattle.search.specs.Graph.{Lead, Way, stay, go, Reaches}
+use Rattle.book.proofs.Gathering.{not_in_none}
 use Rattle.possible.specs.Questions.{Lone}
-
-in_none : {Q : Type 0} (B : ℕ) → has none B ≡ true → Q
-in_none B h = absurd (false≢true (sym (has_none B) ∙ h))
 
 module _ (b : Book) where
   legal : RulesLegal (rules_of (rows_of b))
@@ -43,7 +40,7 @@ module _ (b : Book) where
               let p = and_parts _ _ e in
               (t.leads_is A f B (ltb-true _ _ p.0) (ltb-true _ _ p.1)).0
               (ap (λ (s : ClassSet). has s B) (sym (cond-true _ _ none e)) ∙ h)
-          | inr e ↦ in_none B (ap (λ (s : ClassSet). has s B) (sym (cond-false _ _ none e)) ∙ h)
+          | inr e ↦ not_in_none B (ap (λ (s : ClassSet). has s B) (sym (cond-false _ _ none e)) ∙ h)
         ]
 
     way_to : {A B : ℕ} {w : List ℕ} → paths.Way (rules_of (rows_of b)) A w B → Way b A w B
@@ -63,7 +60,7 @@ module _ (b : Book) where
 
       in_from : (p : ℕ) {B : ℕ} → At P p B → Within (rules_of (rows_of b)) A B
       in_from zero {B} h = (t.within_is A B low).0 (ap (λ (s : ClassSet). has s B) (sym its ∙ sym lone.here) ∙ h)
-      in_from (suc p) {B} h = in_none B (ap (λ (s : ClassSet). has s B) (sym (lone.others p)) ∙ h)
+      in_from (suc p) {B} h = not_in_none B (ap (λ (s : ClassSet). has s B) (sym (lone.others p)) ∙ h)
 
       undone_reaches : (u : Undone (rules_of (rows_of b)) A) → Reaches P b 0 u.word u.rule
       undone_reaches u = record {
