@@ -41,6 +41,7 @@ fn extend(within: &mut [ClassSet; 64], a: u8, more: ClassSet) -> ClassSet
 }
 
 // Class `a` lies within the classes of the set, and within all that they lie within.
+// That `a` is below 64 is asked: a type of its own would be made from, and turned back into, a number at every table.
 pub(crate) fn place(within: &mut [ClassSet; 64], a: u8, set: ClassSet) -> ClassSet
     requires { a < 64 }
     ensures placed { Placed within.old a set within.new result }

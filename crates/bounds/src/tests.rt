@@ -4,6 +4,7 @@ use terms::example::example;
 use terms::refusal::Refusal;
 use terms::row::Row;
 
+// Any numbers, also kinds that are not known.
 fn row(kind: u8, left: u8, right: u8, count: u8, features: [u8; 4]) -> Row {
     Row {
         kind,

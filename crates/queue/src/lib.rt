@@ -8,6 +8,7 @@ ghost use Rattle.terms.specs.Refusals.{ask, asked, numbered};
 use terms::refusal::Refusal;
 
 // The entries wait from the head on, and on from the first place after the last.
+// The memory is the caller's, of any length and with no heap, so the line is a lent slice and no VecDeque.
 #[derive(Drop)]
 pub struct Queue<'a, T: Copy> {
     slots: &'a mut [T],
@@ -17,7 +18,7 @@ pub struct Queue<'a, T: Copy> {
     pub ghost fits: { len ≤ length slots.now },
 }
 
-// Writes the entry into its place.
+// Writes the entry into its place. The row store has its own: one for both would be a public call with a `requires`.
 fn put<T: Copy>(slots: &mut [T], at: usize, entry: T)
     requires inside { at < length slots.old }
     ensures written { slots.new ≡ slice_set slots.old at entry }

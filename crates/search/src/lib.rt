@@ -21,7 +21,7 @@ pub struct ClassPair {
     pub right: u8,
 }
 
-// A part, an exclusion row and the number of letters between them.
+// A part, an exclusion row and the number of letters between them, which stand in memory that the caller lends.
 #[derive(Clone, Copy, PartialEq, Eq, Debug)]
 pub struct Found {
     pub part: u8,

@@ -21,6 +21,7 @@ pub struct Trace {
 }
 
 // The trace of each pair that is met, at the pair's place; `seen` has at each class its partners in such pairs.
+// A table by place and no map, since a map needs a heap.
 #[derive(Drop)]
 pub struct Trail {
     trace: [Option<Trace>; 2080],

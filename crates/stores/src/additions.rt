@@ -11,6 +11,7 @@ use terms::fact::Fact;
 use terms::refusal::Refusal;
 
 // The lower store, which nobody else can tell while it is taken over, and the facts of its own.
+// What a pile can be depends on the store below, of which no ghost field can speak, so its states stand in `valid`.
 #[derive(Drop)]
 pub struct Additions<S> {
     below: S,

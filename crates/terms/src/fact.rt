@@ -7,6 +7,7 @@ use crate::kind::FactKind;
 use crate::refusal::Refusal;
 
 // One fact as numbers: what the three numbers mean depends on the kind.
+// The kind is a number, since facts come from outside with any, and `check` refuses one that is not known.
 #[derive(Clone, Copy, Default, PartialEq, Eq, Debug)]
 pub struct Fact {
     pub kind: u8,

@@ -7,6 +7,7 @@ use crate::kind::RowKind;
 use crate::refusal::Refusal;
 
 // One rule as numbers: the first `count` features, at most four, are in use.
+// Kind and count are numbers, since rows come from outside with any, and `check` refuses those that are none.
 #[derive(Clone, Copy, Default, PartialEq, Eq, Debug)]
 pub struct Row {
     pub kind: u8,
