@@ -79,10 +79,8 @@ impl<'a> Walk<'a> {
                 depth: 0,
                 origin: Origin::Part(part as u8),
             };
-            let mut left = *classes;
-            while let Some(a) = left.take_lowest() {
-                let mut right = classes.minus(self.trail.partners(a));
-                while let Some(b) = right.take_lowest() {
+            for a in *classes {
+                for b in classes.minus(self.trail.partners(a)) {
                     let pair = ClassPair::of(a, b);
                     if let Some(row) = self.meet(pair, trace) {
                         return Some(Excluded { pair, row });
@@ -110,11 +108,9 @@ impl<'a> Walk<'a> {
                     depth,
                     origin: Origin::Step { from, letter },
                 };
-                let mut left = self.book.leads(from.left, letter);
                 let right = self.book.leads(from.right, letter);
-                while let Some(c) = left.take_lowest() {
-                    let mut partners = right.minus(self.trail.partners(c));
-                    while let Some(d) = partners.take_lowest() {
+                for c in self.book.leads(from.left, letter) {
+                    for d in right.minus(self.trail.partners(c)) {
                         let pair = ClassPair::of(c, d);
                         if let Some(row) = self.meet(pair, trace) {
                             found = Some(Excluded { pair, row });
