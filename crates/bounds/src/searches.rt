@@ -134,7 +134,7 @@ fn every_letter_of_29(rt: HostRuntime) {
         length: 29,
     };
     assert_eq!(rt; found, Ok(Some(clash)));
-    for k in 0..29u8 {
-        assert_eq!(rt; letters[usize::from(k)], k * 7 % 16);
+    for (k, letter) in letters[..29].iter().enumerate() {
+        assert_eq!(rt; usize::from(*letter), k * 7 % 16);
     }
 }

@@ -15,11 +15,13 @@ use terms::fact::Fact;
 
 // One reading of the records: how many there are.
 fn read_once(input: &[u8]) -> anyhow::Result<usize> {
-    Ok(read_rules(input)?.records)
+    let group = read_rules(input).ok();
+    Ok(group.context("a record is refused")?.records)
 }
 
 fn sealed(input: &[u8]) -> anyhow::Result<Book> {
-    Ok(read_draft(input)?.seal())
+    let draft = read_draft(input).ok();
+    Ok(draft.context("a record is refused")?.seal())
 }
 
 // One reading and sealing: is class 0 the value by feature 0 of an object in it?
