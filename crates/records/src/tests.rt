@@ -9,13 +9,8 @@ use terms::refusal::Refusal;
 const SUBCLASS: [u8; 10] = [0x50, 0x52, 1, 3, 4, 0, 0, 0, 0, 0];
 
 fn refused(rt: &impl Abort, bytes: &[u8], refusal: Refusal, index: usize) -> Result<(), Fail> {
-    match read_draft(bytes) {
-        Ok(_) => Err(Fail::new("accepted")),
-        Err(fault) => {
-            assert_eq!(rt; fault, Fault { refusal, index });
-            Ok(())
-        },
-    }
+    assert_eq!(rt; read_draft(bytes).err(), Some(Fault { refusal, index }));
+    Ok(())
 }
 
 fn taken(rt: &impl Abort, bytes: &[u8], records: usize) -> Result<(), Fail> {
