@@ -23,7 +23,7 @@ pub record DirectBy (R : List Rule) (f : ℕ) (b : FeatureLinks) : Type 0 where
 abbrev pub Entered : List Rule → List ClassSet → Type 0
 Entered R into = (A f B : ℕ) → value A f B ∈ R → At into B A
 
--- the links hold exactly what the rules say of classes directly
+-- the links hold exactly what the rules say of classes directly; `into` may hold more
 pub record Direct (R : List Rule) (l : Links) : Type 0 where
   pub above_is : (A B : ℕ) → A < 64 → At l.above A B ↔ (subclass A B ∈ R)
   pub by_is : (f : ℕ) → f < 16 → DirectBy R f (links_by l f)

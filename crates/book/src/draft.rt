@@ -1,5 +1,5 @@
 // A draft: the rows of a book that is still being written, and the calls that write it.
-ghost use Rattle.std.specs.Prelude.{◌≡◌, true, [], length, OnErr};
+ghost use Rattle.std.specs.Prelude.{◌≡◌, ◌≤◌, true, [], length, OnErr};
 ghost use Rattle.terms.specs.Refusals.{numbered, asked};
 ghost use Rattle.terms.specs.Rows.{all_lawful};
 
@@ -12,6 +12,7 @@ use terms::row::Row;
 #[derive(Drop)]
 pub struct Draft {
     rows: ArrayVec<Row, 256>,
+    ghost room: { length rows.items ≤ 256 },
     ghost lawful: { all_lawful rows.items ≡ true },
 }
 

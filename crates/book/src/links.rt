@@ -8,6 +8,7 @@ use terms::kind::RowKind;
 use terms::row::Row;
 
 // What the rows say of one feature: `ahead` has at class A the classes of kind 3 rows, `behind` those of kind 4 rows.
+// Two tables and none of pairs, here and below, since `gather` goes over one table whole.
 #[derive(Clone, Copy)]
 pub struct FeatureLinks {
     pub ahead: [ClassSet; 64],

@@ -13,6 +13,7 @@ use classes::ClassSet;
 use terms::row::Row;
 
 // The rows, at most 256 and each lawful, and the tables of their class steps.
+// The rows are those of a draft, and a book holds no draft: what can be written is not to be reached in what is sealed.
 #[derive(Drop)]
 pub struct Book {
     rows: ArrayVec<Row, 256>,

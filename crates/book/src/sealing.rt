@@ -72,6 +72,7 @@ impl FeatureLinks {
 }
 
 // The table is passed beside the links: a struct of both would have to say in each contract that the links stay.
+// That the links are those of the rules R is a premise: R is of no struct, and `Direct` has many proofs, so no ghost field has it.
 impl Links {
     // Adds what the rows of kind 1 say.
     fn climb(&self, within: &mut [ClassSet; 64])
@@ -110,11 +111,10 @@ impl Links {
     fn leads(&self, within: &[ClassSet; 64]) -> [[ClassSet; 64]; 16]
         ensures { AllLed within.now self.now result }
     {
-        // A loop, since no fact is inferred of a table that a closure answers.
-        let mut leads = [[ClassSet::NONE; 64]; 16];
-        for (feature, by) in self.by_feature.iter().enumerate() {
-            leads[feature] = by.leads(within);
-        }
-        leads
+        self.by_feature.map(
+            |by: FeatureLinks| -> [ClassSet; 64]
+                ensures { EachLed within.entry.now by.ahead result }
+            { by.leads(within) },
+        )
     }
 }

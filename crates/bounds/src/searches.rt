@@ -36,7 +36,7 @@ fn in_two(a: u8, b: u8) -> [ClassSet; 256] {
     parts
 }
 
-fn example_book() -> Book {
+pub(crate) fn example_book() -> Book {
     let mut draft = Draft::new();
     for row in example() {
         let _ = draft.rule(row);

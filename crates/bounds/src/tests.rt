@@ -1,6 +1,6 @@
 // Rows, drafts and books at their bounds.
+use crate::searches::example_book;
 use book::draft::Draft;
-use terms::example::example;
 use terms::refusal::Refusal;
 use terms::row::Row;
 
@@ -81,8 +81,8 @@ fn keys(rt: HostRuntime) {
 #[test]
 fn a_draft_holds_256_rows(rt: HostRuntime) {
     let mut draft = Draft::new();
-    for n in 0..256u16 {
-        assert_eq!(rt; draft.rule(row(1, 0, 1, 0, [0; 4])), Ok((n % 256) as u8));
+    for n in 0..=255u8 {
+        assert_eq!(rt; draft.rule(row(1, 0, 1, 0, [0; 4])), Ok(n));
     }
     assert_eq!(rt;
         draft.rule(row(1, 0, 1, 0, [0; 4])),
@@ -97,11 +97,7 @@ fn a_draft_holds_256_rows(rt: HostRuntime) {
 
 #[test]
 fn the_example_implies_more_than_it_says(rt: HostRuntime) {
-    let mut draft = Draft::new();
-    for row in example() {
-        let _ = draft.rule(row);
-    }
-    let book = draft.seal();
+    let book = example_book();
     assert_eq!(rt; book.rows().len(), 4);
     assert!(rt; book.within(0).has(3) && !book.within(0).has(1) && !book.within(1).has(3));
     assert!(rt; book.leads(0, 0).has(1) && book.leads(0, 0).has(2) && !book.leads(0, 1).has(1));

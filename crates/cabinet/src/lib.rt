@@ -1,7 +1,7 @@
 // The log of a control cabinet: a store of a buyer's own make.
 #![tactic(auto)]
 
-ghost use Rattle.std.specs.Prelude.{◌≡◌};
+ghost use Rattle.std.specs.Prelude.{◌≡◌, ◌≤◌, length};
 ghost use Rattle.cabinet.specs.Entries.{LogValid};
 
 use arrayvec::ArrayVec;
@@ -26,6 +26,7 @@ pub struct Cabinet {
     entries: ArrayVec<Entry, 32>,
     clock: u64,
     panel: u32,
+    pub ghost room: { length entries.items ≤ 32 },
     pub ghost valid: { LogValid entries.items },
 }
 
@@ -103,15 +104,15 @@ impl Store for Cabinet {
         ensures written { in_use self.new ≡ in_use self.old ++ replicate (places_used result) (next_entry self.old fact) }
         ensures kept { (self.new.clock ≡ self.old.clock) × (self.new.panel ≡ self.old.panel) }
     {
-        let told = answer(fact, self.lists(fact), self.free());
-        if told == Ok(Told::Added) {
+        let told = answer(fact, self.lists(fact), self.free())?;
+        if told == Told::Added {
             self.entries.push(Entry {
                 stamp: self.clock,
                 fact,
                 panel: self.panel,
             });
         }
-        told
+        Ok(told)
     }
 }
 

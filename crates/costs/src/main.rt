@@ -3,7 +3,7 @@
 
 use anyhow::Context;
 use book::sealed::Book;
-use image::sound;
+use image::{decode, sound};
 use possible::possible;
 use records::reading::{read_draft, read_rules};
 use search::ClassPair;
@@ -13,7 +13,7 @@ use stores::row::RowStore;
 use stores::store::Store;
 use terms::fact::Fact;
 
-// One reading of the records: how many there are.
+// One reading of the records: how many there are. What is refused is not told, here and below, only that it is.
 fn read_once(input: &[u8]) -> anyhow::Result<usize> {
     let group = read_rules(input).ok();
     Ok(group.context("a record is refused")?.records)
@@ -44,13 +44,7 @@ fn tell_once(input: &[u8]) -> anyhow::Result<usize> {
     let mut store = RowStore::open(&mut rows);
     let (records, _) = input.as_chunks::<6>();
     for record in records {
-        let [_, _, kind, first, second, third] = *record;
-        let _ = store.tell(Fact {
-            kind,
-            first,
-            second,
-            third,
-        });
+        let _ = store.tell(decode(record));
     }
     Ok(store.count())
 }

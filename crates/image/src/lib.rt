@@ -10,7 +10,7 @@ use terms::fact::Fact;
 pub mod store;
 
 // The fact of a record, by its bytes.
-fn decode(bytes: &[u8; 6]) -> Fact
+pub fn decode(bytes: &[u8; 6]) -> Fact
     ensures { result ≡ fact_of bytes.now }
 {
     let [_, _, kind, first, second, third] = *bytes;

@@ -11,7 +11,7 @@ use terms::refusal::Refusal;
 #[derive(Drop)]
 pub struct ImageStore<'a> {
     bytes: &'a [u8],
-    ghost valid: { ImageValid bytes.now },
+    pub ghost valid: { ImageValid bytes.now },
 }
 
 impl<'a> ImageStore<'a> {

@@ -19,7 +19,7 @@ pub fn book_lines(heap: Global, book: &Book, impossible: ClassSet) -> Result<Str
     format!(in heap; "{}", BookLines { book, impossible })
 }
 
-// The line that says why a record is refused.
+// The line that says why a record is refused; by its two parts, so that a caller may bring the fault of any layer.
 pub fn refusal_line(heap: Global, refusal: Refusal, index: usize) -> Result<String, AllocError>
     ensures { IfOk result (λ s. string_bytes s ≡ refusal_line refusal index) }
 {

@@ -62,7 +62,7 @@ impl WorkAreas {
         }
     }
 
-    // Says whether no such world has an object in the class.
+    // Says whether no world that keeps all rules has an object in the class.
     fn is_impossible(&mut self, book: &Book, class: u8) -> bool
         requires { class < 64 }
         ensures { (result ≡ true) ↔ (Possible (rules_of (rows_of book.now)) class → ⊥) }

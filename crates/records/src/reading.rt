@@ -9,7 +9,8 @@ use book::draft::Draft;
 use terms::refusal::Refusal;
 use terms::row::Row;
 
-// The rule records at the front of the bytes: their rows, how many they are, and where the first byte after them stands.
+// The rule records at the front of the bytes: their rows, how many they are, and where the first byte after them stands,
+// which is where a reader of the next group goes on.
 #[derive(Drop)]
 pub struct RuleGroup {
     pub draft: Draft,

@@ -79,8 +79,10 @@ impl<'a> Walk<'a> {
                 depth: 0,
                 origin: Origin::Part(part as u8),
             };
-            for a in *classes {
-                for b in classes.minus(self.trail.partners(a)) {
+            let mut left = *classes;
+            while let Some(a) = left.take_lowest() {
+                let mut right = classes.minus(self.trail.partners(a));
+                while let Some(b) = right.take_lowest() {
                     let pair = ClassPair::of(a, b);
                     if let Some(row) = self.meet(pair, trace) {
                         return Some(Excluded { pair, row });
@@ -92,6 +94,7 @@ impl<'a> Walk<'a> {
     }
 
     // Meets pairs in the order of their depth, up to the first that a row excludes.
+    // Sets are taken apart by `take_lowest`, here and in `seed`: a `for` over them costs a fifth more instructions.
     pub(crate) fn hunt(&mut self) -> Option<Excluded>
         requires { Begun self.old }
         ensures same { Same self.old self.new }
@@ -108,9 +111,11 @@ impl<'a> Walk<'a> {
                     depth,
                     origin: Origin::Step { from, letter },
                 };
+                let mut left = self.book.leads(from.left, letter);
                 let right = self.book.leads(from.right, letter);
-                for c in self.book.leads(from.left, letter) {
-                    for d in right.minus(self.trail.partners(c)) {
+                while let Some(c) = left.take_lowest() {
+                    let mut partners = right.minus(self.trail.partners(c));
+                    while let Some(d) = partners.take_lowest() {
                         let pair = ClassPair::of(c, d);
                         if let Some(row) = self.meet(pair, trace) {
                             found = Some(Excluded { pair, row });

@@ -11,7 +11,7 @@ use terms::fact::Fact;
 use terms::refusal::Refusal;
 
 // The lower store, which nobody else can tell while it is taken over, and the facts of its own.
-// What a pile can be depends on the store below, of which no ghost field can speak, so its states stand in `valid`.
+// A store's states need not be a proposition, so no ghost field can hold those of the store below: they stand in `valid`.
 #[derive(Drop)]
 pub struct Additions<S> {
     below: S,
@@ -83,10 +83,10 @@ impl<S: Store> Store for Additions<S> {
         ensures unchanged { places_used result ≡ 0 → self.new ≡ self.old }
         ensures lower { self.new.below ≡ self.old.below }
     {
-        let told = answer(fact, self.lists(fact), self.free());
-        if told == Ok(Told::Added) {
+        let told = answer(fact, self.lists(fact), self.free())?;
+        if told == Told::Added {
             self.own.push(fact);
         }
-        told
+        Ok(told)
     }
 }

@@ -16,7 +16,7 @@ pub struct RowStore<'a> {
 }
 
 // Writes a fact into its row.
-pub(crate) fn put(rows: &mut [Fact], row: usize, fact: Fact)
+fn put(rows: &mut [Fact], row: usize, fact: Fact)
     requires { row < length rows.old }
     ensures { rows.new ≡ slice_set rows.old row fact }
 {
@@ -38,7 +38,7 @@ impl<'a> RowStore<'a> {
         RowStore { rows, used: 0 }
     }
 
-    // Copies are compared, since `contains` compares through references, and then 5,000 tellings cost a quarter more.
+    // Copies are compared, since `contains` compares through references, which costs more in the hottest loop of a store.
     fn lists(&self, fact: Fact) -> bool
         ensures { result ≡ listed (row_facts self.now) fact }
     {
@@ -79,11 +79,11 @@ impl<'a> Store for RowStore<'a> {
         ensures lent { self.new.rows.ghost_name ≡ self.old.rows.ghost_name }
         ensures table { self.new.rows.now ≡ row_facts self.new ++ drop self.new.used self.old.rows.now }
     {
-        let told = answer(fact, self.lists(fact), self.free());
-        if told == Ok(Told::Added) {
+        let told = answer(fact, self.lists(fact), self.free())?;
+        if told == Told::Added {
             put(self.rows, self.used, fact);
             self.used += 1;
         }
-        told
+        Ok(told)
     }
 }

@@ -35,7 +35,7 @@ impl fmt::Display for Told {
 }
 
 // What a store answers to a fact, by whether it lists the fact and how many places are free. A make's own `tell` asks it,
-// and writes the fact where the answer is `Added`.
+// and writes the fact where the answer is `Added`; that is all that the `tell`s share, since each has clauses of its own.
 pub fn answer(fact: Fact, listed: bool, free: usize) -> Result<Told, Refusal>
     ensures answer { numbered result ≡ asked (answer_questions listed free fact) (answer_accepted listed) }
     ensures place { result ≡ Ok Told.Added → 0 < free }

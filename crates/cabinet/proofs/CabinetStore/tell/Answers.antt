@@ -5,5 +5,6 @@ use Rattle.cabinet.proofs.CabinetStore.tell.Goals as goal
 
 pub invariant_of-self : goal.invariant_of-self
 invariant_of-self c = record {
-  valid = means_told _ _ c.args.fact c.answer-told.result _ _ c.args.self.now.valid (grind (arith, common_steps));
+  room = grind (arith, common_steps);
+  valid = means_told _ _ c.args.fact c.answer.result _ _ c.args.self.now.valid (grind (arith, common_steps));
 }

@@ -12,6 +12,7 @@ returns-in_err-number-clause-law c = rule_law (listed c.args.self.now) c.args.ro
 
 pub invariant_of-self : goal.invariant_of-self
 invariant_of-self c = record {
+  room = grind (arith, common_steps);
   lawful = rw c.push.ensures.items (lawful_push (listed c.args.self.now) c.args.row c.args.self.now.lawful
       (row_lawful (listed c.args.self.now) c.args.row c.in_ok-check.ensures));
 }

@@ -6,5 +6,6 @@ use Rattle.stores.proofs.additions.AdditionsStore.tell.Goals as goal
 pub returns-then-eq-clause-stays : goal.returns-then-eq-clause-stays
 returns-then-eq-clause-stays g c = record {
   lower = c.requires.lower;
-  means = means_told _ _ c.args.fact c.answer-told.result _ _ c.requires.means (grind (arith, common_steps));
+  own_few = grind (arith, common_steps);
+  means = means_told _ _ c.args.fact c.answer.result _ _ c.requires.means (grind (arith, common_steps));
 }
