@@ -111,9 +111,9 @@ impl Links {
     fn leads(&self, within: &[ClassSet; 64]) -> [[ClassSet; 64]; 16]
         ensures { AllLed within.now self.now result }
     {
-        self.by_feature.map(
-            |by: FeatureLinks| -> [ClassSet; 64]
-                ensures { EachLed within.entry.now by.ahead result }
+        self.by_feature.each_ref().map(
+            |by: &FeatureLinks| -> [ClassSet; 64]
+                ensures { EachLed within.entry.now by.now.ahead result }
             { by.leads(within) },
         )
     }

@@ -124,7 +124,7 @@ mod tests {
     use std::test::Fail;
     use terms::kind::FactKind;
 
-    // The part is in class 5.
+    // The part is in class 5. The tests of `piles` have such a helper too: one for both would be a public call that only tests use.
     fn in_class_5(part: u8) -> Fact {
         Fact {
             kind: FactKind::InClass as u8,

@@ -13,6 +13,7 @@ use terms::fact::Fact;
 use terms::kind::FactKind;
 use terms::refusal::Refusal;
 
+// The tests of `cabinet` have such a helper too: one for both would be a public call that only tests use.
 fn in_class(part: u8, class: u8) -> Fact {
     Fact {
         kind: FactKind::InClass as u8,

@@ -111,12 +111,6 @@ mod tests {
     use super::*;
     use std::test::Fail;
 
-    #[derive(Clone, Copy, PartialEq, Eq, Debug)]
-    struct ClassPair {
-        left: u8,
-        right: u8,
-    }
-
     #[test]
     fn refuses_the_fourth(rt: HostRuntime) -> Result<(), Fail> {
         let mut memory = [0u8; 3];
@@ -147,8 +141,8 @@ mod tests {
 
     #[test]
     fn holds_pairs_of_classes(rt: HostRuntime) -> Result<(), Fail> {
-        let first = ClassPair { left: 1, right: 2 };
-        let second = ClassPair { left: 3, right: 4 };
+        let first = (1u8, 2u8);
+        let second = (3u8, 4u8);
         let mut memory = [first; 2];
         let mut pairs = Queue::new(&mut memory);
         pairs.push(second)?;

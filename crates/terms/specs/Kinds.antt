@@ -15,21 +15,27 @@ row_number Value = 3
 row_number Pullback = 4
 row_number Key = 5
 
--- the kind of row that a number stands for, if it is known
+-- the number of each kind of fact
+abbrev pub fact_number : FactKind → ℕ
+fact_number InClass = 1
+fact_number ValueAt = 2
+fact_number OneObject = 3
+
+-- the kind of row that has the number, if one has
 abbrev pub row_kind : ℕ → Result RowKind Refusal
 row_kind n =
-    cond (n == 1) (Ok Subclass)
-    (cond (n == 2) (Ok Exclusion)
-    (cond (n == 3) (Ok Value)
-    (cond (n == 4) (Ok Pullback)
-    (cond (n == 5) (Ok Key) (Err UnknownKind)))))
+    cond (n == row_number Subclass) (Ok Subclass)
+    (cond (n == row_number Exclusion) (Ok Exclusion)
+    (cond (n == row_number Value) (Ok Value)
+    (cond (n == row_number Pullback) (Ok Pullback)
+    (cond (n == row_number Key) (Ok Key) (Err UnknownKind)))))
 
--- the kind of fact that a number stands for, if it is known
+-- the kind of fact that has the number, if one has
 abbrev pub fact_kind : ℕ → Result FactKind Refusal
 fact_kind n =
-    cond (n == 1) (Ok InClass)
-    (cond (n == 2) (Ok ValueAt)
-    (cond (n == 3) (Ok OneObject) (Err UnknownKind)))
+    cond (n == fact_number InClass) (Ok InClass)
+    (cond (n == fact_number ValueAt) (Ok ValueAt)
+    (cond (n == fact_number OneObject) (Ok OneObject) (Err UnknownKind)))
 
 -- how many features a row of the kind may have in use
 abbrev pub fits_kind : RowKind → ℕ → Bool

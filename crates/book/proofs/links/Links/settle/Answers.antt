@@ -1,20 +1,13 @@
 use Rattle.std.proofs.Common.{◌≡◌, ◌+◌, ◌*◌, ◌^◌, ◌<◌, sym, subst, arith}
 use Rattle.classes.specs.declared.ClassSet.{ClassSet}
-use Rattle.std.proofs.lemmas.Bool.{both_ways}
-use Rattle.classes.specs.Sets.{has, all, joined, weight}
+use Rattle.classes.specs.Sets.{all, joined, weight}
 use Rattle.classes.proofs.Members.{has_all}
 use Rattle.book.specs.Sealing.{Open, missing}
-use Rattle.book.proofs.Stepping.{open_next, measure_less}
+use Rattle.book.proofs.Stepping.{open_first, open_next, measure_less}
 use Rattle.book.proofs.links.Links.settle.Goals as goal
 
 pub loop-a-init : goal.loop-a-init
-loop-a-init c = (
-  omega arith,
-  λ R d lo r. record {
-    ready = r;
-    served = λ A f a b w. absurd (both_ways (has all A) w (has_all A a));
-  },
-)
+loop-a-init c = (omega arith, λ R d lo r. open_first R c.args.within.now all has_all r)
 
 pub loop-a-smaller : goal.loop-a-smaller
 loop-a-smaller c =
