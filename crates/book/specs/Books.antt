@@ -5,9 +5,14 @@ use Rattle.classes.specs.Sets.{none}
 use Rattle.terms.specs.declared.row.Row.{Row}
 use Rattle.book.specs.Tables.{set_at, table_at}
 use Rattle.book.specs.declared.sealed.Book.{Book}
+use Rattle.book.specs.declared.sealing.StepTables.{StepTables}
 
 abbrev pub rows_of : Book → List Row
 rows_of b = b.rows.items
+
+-- the tables of its class steps
+abbrev pub steps_of : Book → StepTables
+steps_of b = b.tables
 
 -- the set of classes that class A lies within
 abbrev pub within_set : Book → ℕ → ClassSet

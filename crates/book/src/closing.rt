@@ -5,7 +5,7 @@ ghost use Rattle.book.specs.Sealing.{Gathered, widened, Heavier, Extended, Place
 use classes::ClassSet;
 
 // The union of the sets that the table has for the classes of the set.
-pub(crate) fn gather(table: &[ClassSet; 64], set: ClassSet) -> ClassSet
+pub fn gather(table: &[ClassSet; 64], set: ClassSet) -> ClassSet
     ensures { Gathered table.now set result }
 {
     let mut all = ClassSet::NONE;

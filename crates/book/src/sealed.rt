@@ -24,7 +24,8 @@ pub struct Book {
 }
 
 impl Book {
-    ghost use Rattle.book.specs.Books.{rows_of, within_set, leads_set};
+    ghost use Rattle.book.specs.Books.{rows_of, steps_of, within_set, leads_set};
+    ghost use Rattle.book.specs.Sealing.{Direct};
 
     // The book of the rows, with their class steps.
     pub(crate) fn of(rows: ArrayVec<Row, 256>) -> Book
@@ -41,6 +42,21 @@ impl Book {
         ensures { result.now ≡ rows_of self.now }
     {
         self.rows.as_slice()
+    }
+
+    // The tables of all class steps.
+    pub fn steps(&self) -> &StepTables
+        ensures value { result.now ≡ steps_of self.now }
+        ensures exact { ∥ Steps (rules_of (rows_of self.now)) result.now.within result.now.leads ∥₁ }
+    {
+        &self.tables
+    }
+
+    // What the rows say of classes directly.
+    pub fn links(&self) -> Links
+        ensures { Direct (rules_of (rows_of self.now)) result }
+    {
+        Links::of(self.rows.as_slice())
     }
 
     // The classes that a class lies within; a number past 63 is no class and lies within none.

@@ -1,0 +1,6 @@
+-- What completing promises, and what its functions promise each other.
+pub mod Records
+pub mod Lines
+pub mod Growths
+pub mod Closed
+pub mod Whole

@@ -1,0 +1,9 @@
+// Completing the facts of a book's parts: all that its rules and a store's facts say of them.
+#![tactic(auto)]
+
+pub mod complete;
+mod growth;
+pub mod record;
+mod rules;
+mod told;
+mod waiting;
