@@ -4,6 +4,7 @@ ghost use Rattle.classes.specs.Sets.{has};
 ghost use Rattle.terms.specs.Worlds.{Rule};
 ghost use Rattle.terms.specs.Facts.{Claim, in_class, value_at, one_object};
 ghost use Rattle.terms.specs.Completed.{Known};
+ghost use Rattle.completion.specs.Lines.{Moved};
 ghost use Rattle.completion.specs.Records.{Has, Shape, Right, leader_of, part_at, value_by, renamed};
 
 use crate::record::PartRecord;
@@ -18,6 +19,19 @@ pub struct Growth<'a> {
     pub parts: [PartRecord; 256],
     pub waiting: Waiting<'a>,
     ghost shape: { Shape parts },
+}
+
+// In every record the leader `from` becomes the leader `to`; a part whose record changes waits.
+fn rename_all(parts: &mut [PartRecord; 256], waiting: &mut Waiting, from: u8, to: u8)
+    requires { to < from }
+    ensures moved { Moved parts.old waiting.old parts.new waiting.new }
+    ensures named { (p : ℕ) → p < 256 → part_at parts.new p ≡ renamed from to (part_at parts.old p) }
+{
+    for (part, record) in parts.iter_mut().enumerate() {
+        if record.rename(from, to) {
+            waiting.note(part as u8);
+        }
+    }
 }
 
 impl<'a> Growth<'a> {
@@ -71,11 +85,7 @@ impl<'a> Growth<'a> {
         ensures named { (p : ℕ) → p < 256 → part_at self.new.parts p ≡ renamed from to (part_at self.old.parts p) }
         ensures right { (R : List Rule) (F : List Claim) → Known R F (one_object from to) → Right R F self.old.parts → Right R F self.new.parts }
     {
-        for part in 0..=255u8 {
-            if self.parts[usize::from(part)].rename(from, to) {
-                self.waiting.note(part);
-            }
-        }
+        rename_all(&mut self.parts, &mut self.waiting, from, to);
     }
 
     // The two parts are one object.

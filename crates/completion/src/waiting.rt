@@ -1,7 +1,6 @@
 // The parts that are to be looked at again.
 ghost use Rattle.std.specs.Prelude.{◌≡◌, ◌+◌, ◌≤◌, true, [], length};
 ghost use Rattle.queue.specs.Lines.{waiting};
-ghost use Rattle.completion.specs.Lines.{Shorter};
 
 use queue::Queue;
 
@@ -14,6 +13,8 @@ pub struct Waiting<'a> {
 }
 
 impl<'a> Waiting<'a> {
+    ghost use Rattle.completion.specs.Lines.{Shorter};
+
     // No part waits, and records may have grown.
     pub(crate) fn new(slots: &'a mut [u8]) -> Waiting<'a>
         ensures empty { waiting result.line ≡ [] }

@@ -1,0 +1,2 @@
+-- The laws behind completing.
+pub mod Going

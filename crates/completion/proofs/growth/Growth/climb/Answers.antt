@@ -1,0 +1,11 @@
+use Rattle.std.proofs.Common.{rules, ◌≡◌, ℕ, ◌<◌, true, false, ◌↔◌, List, length, ◌+◌, ◌-◌, ◌*◌, ◌≤◌, ◌/◌, ◌%◌, Bool, nat_eq, nat_lt, [], ◌∷◌, ◌++◌, slice_index_or, slice_set, bit_and, bit_or, Fits, w8, w32, w64, Bor, MutBor}
+use Rattle.terms.specs.Worlds.{◌∈◌, Rule, key}
+use Rattle.terms.specs.Facts.{Claim}
+use Rattle.completion.specs.Records.{Agree, Has, Right, key_features, part_at}
+use Rattle.completion.specs.Growths.{Went}
+use Rattle.completion.specs.Closed.{Meant, Handed, Climbed, Followed, Visited, Keyed, KeyedBy, Settled, rules_in, row_at, key_rows}
+use Rattle.completion.proofs.growth.Growth.climb.Goals as goal
+
+-- src/rules.rt:97:5
+pub returns-clause-right : goal.returns-clause-right
+returns-clause-right c = ?

@@ -1,0 +1,17 @@
+use Rattle.std.proofs.Common.{rules, ◌≡◌, ℕ, ◌<◌, true, None, Some, List, ◌+◌, ◌-◌, ◌*◌, ◌≤◌, length, ◌/◌, ◌%◌, Bool, false, nat_eq, nat_lt, [], ◌∷◌, ◌++◌, slice_index_or, slice_set, bit_and, bit_or, Fits, w8, w32, w64, Bor, MutBor}
+use Rattle.classes.specs.Sets.{has}
+use Rattle.terms.specs.Worlds.{Rule}
+use Rattle.terms.specs.Facts.{Claim, in_class, value_at, one_object}
+use Rattle.terms.specs.Completed.{Known}
+use Rattle.completion.specs.Lines.{Moved}
+use Rattle.completion.specs.Records.{Has, Shape, Right, leader_of, part_at, value_by, renamed}
+use Rattle.completion.specs.Growths.{Went, Fresh}
+use Rattle.completion.proofs.growth.Growth.new.Goals as goal
+
+-- src/growth.rt:41:5
+pub invariant_of-result : goal.invariant_of-result
+invariant_of-result c = ?
+
+-- src/growth.rt:41:5
+pub returns : goal.returns
+returns c = ?

@@ -1,0 +1,21 @@
+use Rattle.std.proofs.Common.{rules, ◌≡◌, ℕ, ◌<◌, true, None, Some, List, ◌+◌, ◌-◌, ◌*◌, ◌≤◌, length, ◌/◌, ◌%◌, Bool, false, nat_eq, nat_lt, [], ◌∷◌, ◌++◌, slice_index_or, slice_set, bit_and, bit_or, Fits, w8, w32, w64, Bor, MutBor}
+use Rattle.classes.specs.Sets.{has}
+use Rattle.terms.specs.Worlds.{Rule}
+use Rattle.terms.specs.Facts.{Claim, in_class, value_at, one_object}
+use Rattle.terms.specs.Completed.{Known}
+use Rattle.completion.specs.Lines.{Moved}
+use Rattle.completion.specs.Records.{Has, Shape, Right, leader_of, part_at, value_by, renamed}
+use Rattle.completion.specs.Growths.{Went, Fresh}
+use Rattle.completion.proofs.growth.Growth.put.Goals as goal
+
+-- src/growth.rt:77:9
+pub invariant_of-self : goal.invariant_of-self
+invariant_of-self c = ?
+
+-- src/growth.rt:68:5
+pub returns-clause-went : goal.returns-clause-went
+returns-clause-went c = ?
+
+-- src/growth.rt:68:5
+pub returns-clause-right : goal.returns-clause-right
+returns-clause-right c = ?

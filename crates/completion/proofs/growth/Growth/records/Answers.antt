@@ -1,0 +1,13 @@
+use Rattle.std.proofs.Common.{rules, ◌≡◌, false, List, [], ◌∷◌, length, nat_le, IfOk, OnErr, ℕ, ◌+◌, ◌-◌, ◌*◌, ◌<◌, ◌≤◌, ◌/◌, ◌%◌, Bool, true, nat_eq, nat_lt, ◌++◌, slice_index_or, slice_set, bit_and, bit_or, Fits, w8, w32, w64, Bor, MutBor}
+use Rattle.queue.specs.Lines.{waiting}
+use Rattle.terms.specs.Refusals.{ask, asked, done}
+use Rattle.terms.specs.Facts.{Claim, claims_of}
+use Rattle.completion.specs.Records.{Kept, Led, Right}
+use Rattle.completion.specs.Growths.{Went}
+use Rattle.completion.specs.Closed.{Meant, Settled, rules_in}
+use Rattle.completion.specs.Whole.{Complete}
+use Rattle.completion.proofs.growth.Growth.records.Goals as goal
+
+-- src/complete.rt:55:5
+pub returns : goal.returns
+returns c = ?
