@@ -1,3 +1,5 @@
 -- The laws behind completing.
 pub mod Going
 pub mod Following
+pub mod Limits
+pub mod Exactly

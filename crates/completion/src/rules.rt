@@ -171,7 +171,7 @@ impl<'a> Growth<'a> {
     // Adds what the keys say.
     pub(crate) fn keys(&mut self, rules: &Rules)
         ensures went { Went self.old self.new }
-        ensures closed { self.new.waiting.grown ≡ false → (k : ℕ) → k < length (key_rows rules.now) → KeyedBy (row_at rules.now k) self.new.parts }
+        ensures closed { self.new.waiting.grown ≡ false → (k : ℕ) → k < length (key_rows rules.now) → (row_at rules.now k).kind ≡ 5 → KeyedBy (row_at rules.now k) self.new.parts }
         ensures right { (F : List Claim) → Meant rules.now → Right (rules_in rules.now) F self.old.parts → Right (rules_in rules.now) F self.new.parts }
     {
         for row in rules.book.rows() {
