@@ -1,6 +1,6 @@
 -- One record changed.
 use Rattle.std.proofs.Common.{◌≡◌, ℕ, zero, suc, ◌+◌, ◌<◌, ◌≤◌, ◌≢◌, true, ◌⊎◌, List, [], ◌∷◌, length, set, Some, None, true≢false, refl, sym, ap, ◌∙◌, subst, inl, inr, arith}
-use Rattle.std.proofs.lemmas.List.{get_or-set_same, get_or-set_other, get_or_past, length-set}
+use Rattle.std.proofs.lemmas.List.{get_or-set_same, get_or-set_other, get_or_past, length-set, set-get_or}
 use Rattle.std.proofs.lemmas.Bool.{cases_eq, cases_lt, or_left, or_right, or_cases}
 use Rattle.queue.specs.Lines.{waiting}
 use Rattle.classes.specs.declared.ClassSet.{ClassSet}
@@ -32,6 +32,10 @@ total_set (x ∷ ps) (suc p) r h = let i = total_set ps p r (omega arith) in ome
 
 abbrev blank : PartRecord
 blank = record { classes = record { bits = 0 }; leader = 0; values = [] }
+
+-- the record of p takes its own place
+pub set_same : (ps : List PartRecord) (p : ℕ) (r : PartRecord) → r ≡ part_at ps p → set ps p r ≡ ps
+set_same ps p r e = ap (set ps p) e ∙ set-get_or ps p blank
 
 -- r takes the place of the record of p
 module _ (ps : List PartRecord) (p : ℕ) (r : PartRecord) (long : length ps ≡ 256) (low : p < 256) where
