@@ -2,3 +2,4 @@
 pub mod Going
 pub mod Growing
 pub mod Renaming
+pub mod Telling
