@@ -1,5 +1,5 @@
 -- All records renamed.
-use Rattle.std.proofs.Common.{◌≡◌, ℕ, ◌+◌, ◌<◌, ◌≤◌, ◌≢◌, List, length, set, Some, None, Option, refl, sym, ap, ◌∙◌, subst, inl, inr, arith}
+use Rattle.std.proofs.Common.{◌≡◌, ℕ, ◌<◌, ◌≤◌, ◌≢◌, List, Some, None, Option, refl, sym, ap, ◌∙◌, subst, inl, inr, arith}
 use Rattle.std.proofs.Math.ListN.{get_or-map}
 use Rattle.std.proofs.lemmas.Bool.{cases_eq, cond-true, cond-false, eq-eqb, ne_eqb}
 use Rattle.classes.specs.Sets.{has}
@@ -7,7 +7,7 @@ use Rattle.terms.specs.Worlds.{Rule}
 use Rattle.terms.specs.Facts.{Claim, in_class, value_at, one_object}
 use Rattle.terms.specs.Completed.{Known, joined}
 use Rattle.completion.specs.declared.record.PartRecord.{PartRecord}
-use Rattle.completion.specs.Records.{Has, Shape, RightOf, Right, Kept, leader_of, part_at, value_by, named, named_value, renamed}
+use Rattle.completion.specs.Records.{Shape, Right, Kept, leader_of, part_at, value_by, named, named_value, renamed}
 
 -- the new names of parts
 pub named_hit : (from to p : ℕ) → p ≡ from → named from to p ≡ to

@@ -1,19 +1,9 @@
-use Rattle.std.proofs.Common.{◌≡◌, ℕ, ◌<◌, ◌≤◌, length, length-set, set, sym, ap, ◌∙◌, subst, refl, below_more, rules, arith}
-use Rattle.completion.specs.declared.record.PartRecord.{PartRecord}
+use Rattle.std.proofs.Common.{◌≡◌, ℕ, length-set, set, ap, ◌∙◌, below_more, arith}
 use Rattle.completion.specs.Records.{part_at, renamed}
-use Rattle.completion.specs.Lines.{Moved}
 use Rattle.completion.proofs.Going.{moved_none, moved_then}
 use Rattle.completion.proofs.Growing.{here, there, set_same, set_moved}
 use Rattle.completion.proofs.growth.rename_all.Goals as goal
 use Rattle.completion.proofs.growth.rename_all.Goals.{then-rename, else-rename}
-
-pub loop-part-init : goal.loop-part-init
-loop-part-init c = record {
-  long = c.told-parts;
-  named = λ p h. absurd (omega arith);
-  later = λ p h. refl;
-  moved = moved_none c.args.parts.now c.args.waiting.now;
-}
 
 pub loop-part-preserved : goal.loop-part-preserved
 loop-part-preserved c =
@@ -37,8 +27,3 @@ loop-part-preserved c =
       ]);
     }
 
-pub returns-clause-moved : goal.returns-clause-moved
-returns-clause-moved c = c.loop-part.invariant.moved
-
-pub returns-clause-named : goal.returns-clause-named
-returns-clause-named c = λ p l. c.loop-part.invariant.named p (omega arith)

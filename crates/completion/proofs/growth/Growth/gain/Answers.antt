@@ -1,4 +1,4 @@
-use Rattle.std.proofs.Common.{◌≡◌, ℕ, true, length, set, rules, arith}
+use Rattle.std.proofs.Common.{◌≡◌, ℕ, true, set, arith}
 use Rattle.classes.specs.Sets.{has}
 use Rattle.completion.specs.Records.{Has, part_at, gained}
 use Rattle.completion.proofs.Growing.{here, set_shape, set_kept, set_moved, set_right, gained_has, gained_more, gained_right}
@@ -11,9 +11,8 @@ invariant_of-self c =
     let p = c.args.part in
     let r = part_at g.parts p in
     let more = c.args.more in
-    let long : length g.parts ≡ 256 = search rules in
     rw (c.gain.ensures.after, c.from.ensures) (record {
-      shape = set_shape g.parts p (gained r more) long (omega arith) (gained_more r more) g.shape (λ f v h. g.shape.lead p f v (omega arith) h);
+      shape = set_shape g.parts p (gained r more) (omega arith) (omega arith) (gained_more r more) g.shape (λ f v h. g.shape.lead p f v (omega arith) h);
     })
 
 pub returns-then-gain-clause-went : goal.returns-then-gain-clause-went
@@ -22,21 +21,20 @@ returns-then-gain-clause-went c =
     let p = c.args.part in
     let r = part_at g.parts p in
     let more = c.args.more in
-    let long : length g.parts ≡ 256 = search rules in
     record {
-      kept = rw (c.gain.ensures.after, c.from.ensures) (set_kept g.parts p (gained r more) long (omega arith) (gained_more r more));
-      moved = set_moved g.parts c.from.result c.gain.new.self long (omega arith) g.waiting c.note.new.self
+      kept = rw (c.gain.ensures.after, c.from.ensures) (set_kept g.parts p (gained r more) (omega arith) (omega arith) (gained_more r more));
+      moved = set_moved g.parts c.from.result c.gain.new.self (omega arith) (omega arith) g.waiting c.note.new.self
           (c.gain.ensures.grew.more c.if-gain.true) c.note.ensures.grown c.note.ensures.line;
     }
 
+-- the part is in the classes, whether or not any was new
 given : (c : After-gain) → (A : ℕ) → has c.args.more A ≡ true → Has (part_at (set c.args.self.now.parts c.from.result c.gain.new.self) c.args.part) A
 given c =
     let ps = c.args.self.now.parts in
     let p = c.args.part in
     let r = part_at ps p in
     let more = c.args.more in
-    let long : length ps ≡ 256 = search rules in
-    rw (c.gain.ensures.after, c.from.ensures) (λ A h. rw (here ps p (gained r more) long (omega arith)) (gained_has r more A h))
+    rw (c.gain.ensures.after, c.from.ensures) (λ A h. rw (here ps p (gained r more) (omega arith) (omega arith)) (gained_has r more A h))
 
 pub returns-then-gain-clause-given : goal.returns-then-gain-clause-given
 returns-then-gain-clause-given c = given (goal.at.returns-then-gain-clause-given c).After-gain
@@ -50,5 +48,4 @@ returns-then-gain-clause-right c =
     let p = c.args.part in
     let r = part_at g.parts p in
     let more = c.args.more in
-    let long : length g.parts ≡ 256 = search rules in
-    rw (c.gain.ensures.after, c.from.ensures) (λ R F k. set_right g.parts p (gained r more) long (omega arith) R F (gained_right R F p r more k))
+    rw (c.gain.ensures.after, c.from.ensures) (λ R F k. set_right g.parts p (gained r more) (omega arith) (omega arith) R F (gained_right R F p r more k))

@@ -1,4 +1,4 @@
-use Rattle.std.proofs.Common.{◌≡◌, length, rules, arith}
+use Rattle.std.proofs.Common.{arith}
 use Rattle.completion.specs.Records.{part_at, valued}
 use Rattle.completion.proofs.Growing.{set_shape, set_kept, set_moved, set_right, valued_leads, valued_more, valued_right}
 use Rattle.completion.proofs.growth.Growth.put.Goals as goal
@@ -10,9 +10,8 @@ invariant_of-self c =
     let r = part_at g.parts p in
     let f = c.args.feature in
     let v = c.args.leader in
-    let long : length g.parts ≡ 256 = search rules in
     rw (c.put.ensures.after, c.from.ensures) (record {
-      shape = set_shape g.parts p (valued r f v) long (omega arith) (valued_more r f v c.requires.untold) g.shape
+      shape = set_shape g.parts p (valued r f v) (omega arith) (omega arith) (valued_more r f v c.requires.untold) g.shape
           (valued_leads g.parts r f v (omega arith) c.requires.leads (λ k w h. g.shape.lead p k w (omega arith) h));
     })
 
@@ -23,10 +22,9 @@ returns-clause-went c =
     let r = part_at g.parts p in
     let f = c.args.feature in
     let v = c.args.leader in
-    let long : length g.parts ≡ 256 = search rules in
     record {
-      kept = rw (c.put.ensures.after, c.from.ensures) (set_kept g.parts p (valued r f v) long (omega arith) (valued_more r f v c.requires.untold));
-      moved = set_moved g.parts c.from.result c.put.new.self long (omega arith) g.waiting c.note.new.self
+      kept = rw (c.put.ensures.after, c.from.ensures) (set_kept g.parts p (valued r f v) (omega arith) (omega arith) (valued_more r f v c.requires.untold));
+      moved = set_moved g.parts c.from.result c.put.new.self (omega arith) (omega arith) g.waiting c.note.new.self
           c.put.ensures.grew c.note.ensures.grown c.note.ensures.line;
     }
 
@@ -37,5 +35,4 @@ returns-clause-right c =
     let r = part_at g.parts p in
     let f = c.args.feature in
     let v = c.args.leader in
-    let long : length g.parts ≡ 256 = search rules in
-    rw (c.put.ensures.after, c.from.ensures) (λ R F k. set_right g.parts p (valued r f v) long (omega arith) R F (valued_right R F p r f v k))
+    rw (c.put.ensures.after, c.from.ensures) (λ R F k. set_right g.parts p (valued r f v) (omega arith) (omega arith) R F (valued_right R F p r f v k))

@@ -1,25 +1,14 @@
-use Rattle.std.proofs.Common.{◌≡◌, ℕ, ◌<◌, true, List, length, Some, sym, ◌∙◌, subst, below_more, rules, arith}
+use Rattle.std.proofs.Common.{◌≡◌, ◌<◌, Some, sym, ◌∙◌, subst, below_more, rules, arith}
 use Rattle.std.specs.List.{slice_get}
 use Rattle.stores.proofs.Listing.{nth_in, nth_below}
 use Rattle.terms.specs.declared.fact.Fact.{Fact}
-use Rattle.terms.specs.Lawful.{lawful_fact}
-use Rattle.terms.specs.Worlds.{◌∈◌, Rule}
-use Rattle.terms.specs.Facts.{Claim, claim_of, claims_of}
-use Rattle.terms.specs.Completed.{Known}
+use Rattle.terms.specs.Facts.{claim_of}
 use Rattle.theory.specs.Legal.{ClaimLegal}
-use Rattle.completion.specs.Records.{Says, Right}
-use Rattle.completion.specs.Growths.{Went}
-use Rattle.completion.proofs.Going.{went_none, went_then}
+use Rattle.completion.specs.Records.{Says}
+use Rattle.completion.proofs.Going.{went_then}
 use Rattle.completion.proofs.Telling.{claim_legal, claim_told, told_claim}
 use Rattle.completion.proofs.growth.Growth.tell_all.Goals as goal
 use Rattle.completion.proofs.growth.Growth.tell_all.Goals.{in-Some, in_default}
-
-pub loop-place-init : goal.loop-place-init
-loop-place-init g c = record {
-  went = went_none c.args.self.now;
-  told = λ k h. absurd (omega arith);
-  right = λ R F k t. t;
-}
 
 pub tell-requires : goal.tell-requires
 tell-requires g c =
@@ -56,9 +45,6 @@ loop-place-preserved g c =
       })
     ]
 
-pub returns-clause-went : goal.returns-clause-went
-returns-clause-went g c = c.loop-place.invariant.went
-
 pub returns-clause-given : goal.returns-clause-given
 returns-clause-given g c = λ x m.
     let facts = g.S.Store.facts c.args.store.now in
@@ -66,5 +52,3 @@ returns-clause-given g c = λ x m.
     let low : t.0 < c.loop-place.place = omega (arith, nth_below facts t.0 t.1 t.2) in
     subst (Says c.loop-place.self.parts) (sym t.3) (c.loop-place.invariant.told t.0 low t.1 t.2).1
 
-pub returns-clause-right : goal.returns-clause-right
-returns-clause-right g c = c.loop-place.invariant.right

@@ -1,4 +1,4 @@
-use Rattle.std.proofs.Common.{◌≡◌, ◌<◌, sym, subst, arith}
+use Rattle.std.proofs.Common.{sym, subst, arith}
 use Rattle.terms.specs.Facts.{one_object}
 use Rattle.terms.specs.Completed.{Known, turned, joined}
 use Rattle.completion.proofs.growth.Growth.unite.Goals as goal
