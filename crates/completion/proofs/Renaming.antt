@@ -10,10 +10,10 @@ use Rattle.completion.specs.declared.record.PartRecord.{PartRecord}
 use Rattle.completion.specs.Records.{Shape, Right, Kept, leader_of, part_at, value_by, named, named_value, renamed}
 
 -- the new names of parts
-pub named_hit : (from to p : ℕ) → p ≡ from → named from to p ≡ to
+named_hit : (from to p : ℕ) → p ≡ from → named from to p ≡ to
 named_hit from to p e = cond-true _ _ _ (eq-eqb p from e)
 
-pub named_miss : (from to p : ℕ) → p ≢ from → named from to p ≡ p
+named_miss : (from to p : ℕ) → p ≢ from → named from to p ≡ p
 named_miss from to p ne = cond-false _ _ _ (ne_eqb p from ne)
 
 named_low : (from to p : ℕ) → to < from → named from to p ≤ p

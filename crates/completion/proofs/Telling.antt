@@ -13,6 +13,8 @@ use Rattle.terms.specs.Lawful.{lawful_fact}
 use Rattle.terms.specs.Worlds.{◌∈◌}
 use Rattle.terms.specs.Facts.{Claim, in_class, value_at, one_object, claim_of, claims_of}
 use Rattle.theory.specs.Legal.{ClaimLegal}
+use Rattle.completion.specs.declared.record.PartRecord.{PartRecord}
+use Rattle.completion.specs.Records.{Says}
 
 -- the claim of a fact, by its kind
 pub claims_class : (f : Fact) → fact_kind f.kind ≡ Ok InClass → claim_of f ≡ in_class f.first f.second
@@ -27,6 +29,10 @@ claims_one f e = grind (arith, nat_tests)
 -- the claim of a lawful fact is within the limits
 pub claim_legal : (f : Fact) → lawful_fact f ≡ true → f.first < 256 → f.second < 256 → f.third < 256 → ClaimLegal (claim_of f)
 claim_legal f h x y z = grind (arith, nat_tests)
+
+-- the fact at place k of the list claims what is within the limits, and the records say it
+abbrev pub Said : List Fact → List PartRecord → ℕ → Type 0
+Said facts ps k = (f : Fact) → slice_get facts k ≡ Some f → ClaimLegal (claim_of f) × Says ps (claim_of f)
 
 -- each fact of the list is claimed, and nothing else
 pub claim_told : (facts : List Fact) (k : ℕ) (f : Fact) → slice_get facts k ≡ Some f → claim_of f ∈ claims_of facts

@@ -26,4 +26,3 @@ loop-part-preserved c =
         | else-rename w ↦ rw (w.waiting-is, set_same qs k r (c.rename.ensures.grew.none w.if-rename.false)) (moved_none qs c.loop-part.waiting)
       ]);
     }
-
