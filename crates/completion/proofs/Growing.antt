@@ -61,11 +61,14 @@ module _ (ps : List PartRecord) (p : ℕ) (r : PartRecord) (long : length ps ≡
       record { same = λ e. absurd (true≢false (sym up ∙ e)); lighter = rw up (omega arith) }
 
   module _ (m : More (part_at ps p) r) where
-    leader_same : (q : ℕ) → leader_of (set ps p r) q ≡ leader_of ps q
-    leader_same q = elim (cases_eq q p) [
-      | inl e ↦ subst (λ (x : ℕ). leader_of (set ps p r) x ≡ leader_of ps x) (sym e) (ap (λ (x : PartRecord). x.leader) here ∙ m.leader)
-      | inr ne ↦ ap (λ (x : PartRecord). x.leader) (there q ne)
+    more_at : (q : ℕ) → More (part_at ps q) (part_at (set ps p r) q)
+    more_at q = elim (cases_eq q p) [
+      | inl e ↦ subst (λ (x : ℕ). More (part_at ps x) (part_at (set ps p r) x)) (sym e) (subst (More (part_at ps p)) (sym here) m)
+      | inr ne ↦ subst (More (part_at ps q)) (sym (there q ne)) (record { classes = λ A h. h; leader = refl; values = λ f v h. h })
     ]
+
+    leader_same : (q : ℕ) → leader_of (set ps p r) q ≡ leader_of ps q
+    leader_same q = (more_at q).leader
 
     pub set_shape : Shape ps → Leads ps r → Shape (set ps p r)
     set_shape s vs = record {
@@ -75,12 +78,6 @@ module _ (ps : List PartRecord) (p : ℕ) (r : PartRecord) (long : length ps ≡
           let x = each (λ q x. Leads ps x) vs (λ q l f v. s.lead q f v l) q l f v h in
           (x.0, leader_same v ∙ x.1);
     }
-
-    more_at : (q : ℕ) → More (part_at ps q) (part_at (set ps p r) q)
-    more_at q = elim (cases_eq q p) [
-      | inl e ↦ subst (λ (x : ℕ). More (part_at ps x) (part_at (set ps p r) x)) (sym e) (subst (More (part_at ps p)) (sym here) m)
-      | inr ne ↦ subst (More (part_at ps q)) (sym (there q ne)) (record { classes = λ A h. h; leader = refl; values = λ f v h. h })
-    ]
 
     pub set_kept : Kept ps (set ps p r)
     set_kept (in_class q A) l h = (more_at q).classes A h
@@ -104,16 +101,12 @@ gained_right R F p r more k t = record {
 -- a value of the record with a new value is the new one, or it was there
 valued_by : (r : PartRecord) (f v g w : ℕ) → value_by (valued r f v) g ≡ Some w → ((g ≡ f) × (w ≡ v)) ⊎ (value_by r g ≡ Some w)
 valued_by r f v g w h = elim (cases_eq g f) [
-  | inl e ↦ elim (cases_lt f (length r.values)) [
-    | inl l ↦
-        let x : value_by (valued r f v) f ≡ Some w = subst (λ (n : ℕ). value_by (valued r f v) n ≡ Some w) e h in
-        let y : Some w ≡ Some v = sym x ∙ get_or-set_same r.values f (Some v) None l in
-        inl (e, cc)
-    | inr l ↦
-        let x : value_by (valued r f v) f ≡ Some w = subst (λ (n : ℕ). value_by (valued r f v) n ≡ Some w) e h in
-        let y : value_by (valued r f v) f ≡ None = get_or_past (set r.values f (Some v)) f None (omega (arith, length-set r.values f (Some v))) in
-        absurd (let z : ◌≡◌ {A = ℕ} 0 1 = cc in omega arith)
-  ]
+  | inl e ↦
+      let x : value_by (valued r f v) f ≡ Some w = subst (λ (n : ℕ). value_by (valued r f v) n ≡ Some w) e h in
+      elim (cases_lt f (length r.values)) [
+        | inl l ↦ let y = get_or-set_same r.values f (Some v) None l in inl (e, cc)
+        | inr l ↦ let y = get_or_past (set r.values f (Some v)) f None (omega (arith, length-set r.values f (Some v))) in cc
+      ]
   | inr ne ↦ inr (sym (get_or-set_other r.values f g (Some v) None ne) ∙ h)
 ]
 
@@ -122,9 +115,7 @@ valued_more r f v none = record {
   classes = λ A h. h;
   leader = refl;
   values = λ g w h. elim (cases_eq g f) [
-    | inl e ↦
-        let x : value_by r f ≡ Some w = subst (λ (n : ℕ). value_by r n ≡ Some w) e h in
-        absurd (let z : ◌≡◌ {A = ℕ} 0 1 = cc in omega arith)
+    | inl e ↦ let x : value_by r f ≡ Some w = subst (λ (n : ℕ). value_by r n ≡ Some w) e h in cc
     | inr ne ↦ get_or-set_other r.values f g (Some v) None ne ∙ h
   ];
 }

@@ -24,7 +24,7 @@ renamed_value from to r f = get_or-map (named_value from to) r.values f None
 
 -- a value of a renamed record has its new name
 value_named : (from to : ℕ) (o : Option ℕ) (v : ℕ) → named_value from to o ≡ Some v → (u : ℕ) × (o ≡ Some u) × (named from to u ≡ v)
-value_named from to None v h = absurd (let z : ◌≡◌ {A = ℕ} 0 1 = cc in omega arith)
+value_named from to None v h = cc
 value_named from to (Some u) v h = (u, refl, cc)
 
 module _ (from to : ℕ) (ps qs : List PartRecord) (lower : to < from) (low : from < 256) (s : Shape ps) (leads : (leader_of ps from ≡ from) × (leader_of ps to ≡ to))

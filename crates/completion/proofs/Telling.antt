@@ -36,7 +36,7 @@ Said facts ps k = (f : Fact) → slice_get facts k ≡ Some f → ClaimLegal (cl
 
 -- each fact of the list is claimed, and nothing else
 pub claim_told : (facts : List Fact) (k : ℕ) (f : Fact) → slice_get facts k ≡ Some f → claim_of f ∈ claims_of facts
-claim_told [] k f h = let z : ◌≡◌ {A = ℕ} 0 1 = cc in absurd (omega arith)
+claim_told [] k f h = cc
 claim_told (g ∷ facts) zero f h = let e : f ≡ g = cc in Memᴰ.head (ap claim_of e)
 claim_told (g ∷ facts) (suc k) f h = Memᴰ.tail (claim_told facts k f h)
 
