@@ -1,5 +1,7 @@
 -- The laws behind completing.
 pub mod Going
+pub mod Growing
+pub mod Renaming
 pub mod Following
 pub mod Limits
 pub mod Exactly
