@@ -1,2 +1,3 @@
 -- The laws behind completing.
 pub mod Going
+pub mod Weighing
