@@ -1,3 +1,4 @@
 -- The laws behind completing.
 pub mod Going
 pub mod Weighing
+pub mod Filling
