@@ -2,3 +2,4 @@
 pub mod Going
 pub mod Weighing
 pub mod Filling
+pub mod Agreeing
