@@ -1,7 +1,7 @@
--- Records of which nothing is said but that each part is itself.
-use Rattle.std.proofs.Common.{◌≡◌, ℕ, ◌<◌, ◌≤◌, List, Some, None, get_or, replicate, sym, ap, ◌∙◌, subst, inl, inr, arith}
+-- Arrays made by a closure, and records of which nothing is said but that each part is itself.
+use Rattle.std.proofs.Common.{◌≡◌, ℕ, ◌<◌, List, None, get_or, replicate, ap, inl, inr, arith}
 use Rattle.std.proofs.lemmas.Bool.{cases_lt}
-use Rattle.std.proofs.lemmas.List.{get_or-replicate, get_or_past, length-replicate}
+use Rattle.std.proofs.lemmas.List.{get_or-replicate, get_or_past}
 use Rattle.std.specs.Array.{IsFromFnResult}
 use denote.Param.Members.{Mut, Called}
 use Rattle.completion.specs.declared.record.PartRecord.{PartRecord}
@@ -12,6 +12,7 @@ module _ {F B : Type 0} (g : Mut F (ℕ × Unit {0}) B) (P : ℕ → B → Type 
   pub filled_each : (f : F) (ys : List B) (n : ℕ) (e : B) → IsFromFnResult g f ys n → (i : ℕ) → i < n → P i (get_or ys i e)
   filled_each f ys n e r i h = let m = r.at i e h in step i (get_or ys i e) m.0 m.1 m.2
 
+-- a part alone has no value
 alone_untold : (p f : ℕ) → value_by (alone p) f ≡ None
 alone_untold p f =
     elim (cases_lt f 16) [
