@@ -28,10 +28,7 @@ values_set (x ∷ vs) (suc f) v h = let i = values_set vs f v (omega arith) in o
 pub valued_lighter : (r : PartRecord) (f v : ℕ) → f < length r.values → v < value_weight (value_by r f) → weight (valued r f v) < weight r
 valued_lighter r f v h l = let e = values_set r.values f (Some v) h in omega arith
 
-pub grew_none : (r : PartRecord) → Grew false r r
-grew_none r = record { more = λ e. cc; none = λ _. refl }
-
-pub grew_lighter : {r s : PartRecord} → weight s < weight r → Grew true r s
+grew_lighter : {r s : PartRecord} → weight s < weight r → Grew true r s
 grew_lighter l = record { more = λ _. l; none = λ e. cc }
 
 -- a record that is lighter than one that may have grown has grown
