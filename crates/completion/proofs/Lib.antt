@@ -5,3 +5,6 @@ pub mod Renaming
 pub mod Following
 pub mod Limits
 pub mod Exactly
+pub mod Weighing
+pub mod Filling
+pub mod Agreeing

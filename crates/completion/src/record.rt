@@ -13,6 +13,7 @@ pub struct PartRecord {
 }
 
 impl PartRecord {
+    ghost use Rattle.terms.specs.Rows.{lawful};
     ghost use Rattle.completion.specs.Records.{Agree, Grew, alone, gained, key_features, renamed, valued, value_by, weight};
 
     // A part of which nothing is said but that it is itself.
@@ -75,6 +76,7 @@ impl PartRecord {
     }
     // Do the two parts have, by each feature of the key, values that are one object? No value agrees with an untold one.
     pub(crate) fn agrees(&self, other: &PartRecord, key: Row) -> bool
+        requires { lawful key ≡ true }
         ensures { (result ≡ true) ↔ Agree (key_features key) self.now other.now }
     {
         let used = &key.features[..usize::from(key.count).min(4)];

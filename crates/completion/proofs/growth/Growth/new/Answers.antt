@@ -1,17 +1,14 @@
-use Rattle.std.proofs.Common.{rules, ◌≡◌, ℕ, ◌<◌, true, None, Some, List, ◌+◌, ◌-◌, ◌*◌, ◌≤◌, length, ◌/◌, ◌%◌, Bool, false, nat_eq, nat_lt, [], ◌∷◌, ◌++◌, slice_index_or, slice_set, bit_and, bit_or, Fits, w8, w32, w64, Bor, MutBor}
-use Rattle.classes.specs.Sets.{has}
-use Rattle.terms.specs.Worlds.{Rule}
-use Rattle.terms.specs.Facts.{Claim, in_class, value_at, one_object}
-use Rattle.terms.specs.Completed.{Known}
-use Rattle.completion.specs.Lines.{Moved}
-use Rattle.completion.specs.Records.{Has, Shape, Right, leader_of, part_at, value_by, renamed}
-use Rattle.completion.specs.Growths.{Went, Fresh}
+use Rattle.std.proofs.Common.{rules, ◌≡◌, ℕ, ◌<◌}
+use Rattle.completion.specs.Records.{alone, part_at}
+use Rattle.completion.proofs.Filling.{filled_each, alone_shape}
 use Rattle.completion.proofs.growth.Growth.new.Goals as goal
+use Rattle.completion.proofs.growth.Growth.new.Goals.{After-new}
 
--- src/growth.rt:41:5
+each : (c : After-new) → (p : ℕ) → p < 256 → part_at c.from_fn.result p ≡ alone p
+each c = filled_each _ (λ p r. r ≡ alone p) (λ i y p q k. search rules) _ c.from_fn.result 256 _ c.from_fn.ensures.items
+
 pub invariant_of-result : goal.invariant_of-result
-invariant_of-result c = ?
+invariant_of-result c = record { shape = alone_shape c.from_fn.result (each c) }
 
--- src/growth.rt:41:5
 pub returns : goal.returns
-returns c = ?
+returns c = record { each = each (goal.at.returns c).After-new; grown = c.new.ensures.grown; none = c.new.ensures.empty }

@@ -1,13 +1,9 @@
-use Rattle.std.proofs.Common.{rules, ◌≡◌, false, List, [], ◌∷◌, length, nat_le, IfOk, OnErr, ℕ, ◌+◌, ◌-◌, ◌*◌, ◌<◌, ◌≤◌, ◌/◌, ◌%◌, Bool, true, nat_eq, nat_lt, ◌++◌, slice_index_or, slice_set, bit_and, bit_or, Fits, w8, w32, w64, Bor, MutBor}
-use Rattle.queue.specs.Lines.{waiting}
-use Rattle.terms.specs.Refusals.{ask, asked, done}
-use Rattle.terms.specs.Facts.{Claim, claims_of}
-use Rattle.completion.specs.Records.{Kept, Led, Right}
-use Rattle.completion.specs.Growths.{Went}
-use Rattle.completion.specs.Closed.{Meant, Settled, rules_in}
-use Rattle.completion.specs.Whole.{Complete}
+use Rattle.std.proofs.Common.{rules, ◌≡◌, arith}
+use Rattle.completion.specs.Records.{part_at}
+use Rattle.book.proofs.Mapping.{maps_each}
 use Rattle.completion.proofs.growth.Growth.records.Goals as goal
 
--- src/complete.rt:55:5
 pub returns : goal.returns
-returns c = ?
+returns c = λ p h.
+    let parts = c.args.self.now.parts in
+    maps_each _ (λ x y. y ≡ part_at parts x.leader) _ (λ x y q k. search rules) parts c.map.result _ _ 0 256 c.map.ensures.items.each p (omega arith) h

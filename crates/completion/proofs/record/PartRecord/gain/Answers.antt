@@ -1,7 +1,7 @@
-use Rattle.std.proofs.Common.{rules, ◌≡◌, ◌<◌, true, false, ◌↔◌, None, ℕ, ◌+◌, ◌-◌, ◌*◌, ◌≤◌, length, ◌/◌, ◌%◌, Bool, nat_eq, nat_lt, List, [], ◌∷◌, ◌++◌, slice_index_or, slice_set, bit_and, bit_or, Fits, w8, w32, w64, Bor, MutBor}
-use Rattle.completion.specs.Records.{Agree, Grew, alone, gained, key_features, renamed, valued, value_by, weight}
+use Rattle.std.proofs.Common.{arith}
+use Rattle.completion.proofs.Weighing.{gained_grew}
 use Rattle.completion.proofs.record.PartRecord.gain.Goals as goal
 
--- src/record.rt:37:5
 pub returns-clause-grew : goal.returns-clause-grew
-returns-clause-grew c = ?
+returns-clause-grew c =
+    rw c.ne-grew.ensures (gained_grew c.args.self.now c.args.more c.union-classes.result c.union-classes.ensures.value (omega arith))

@@ -1,7 +1,8 @@
-use Rattle.std.proofs.Common.{rules, ◌≡◌, ◌<◌, true, false, ◌↔◌, None, ℕ, ◌+◌, ◌-◌, ◌*◌, ◌≤◌, length, ◌/◌, ◌%◌, Bool, nat_eq, nat_lt, List, [], ◌∷◌, ◌++◌, slice_index_or, slice_set, bit_and, bit_or, Fits, w8, w32, w64, Bor, MutBor}
-use Rattle.completion.specs.Records.{Agree, Grew, alone, gained, key_features, renamed, valued, value_by, weight}
+use Rattle.std.proofs.Common.{arith}
+use Rattle.completion.proofs.Weighing.{valued_lighter}
 use Rattle.completion.proofs.record.PartRecord.put.Goals as goal
 
--- src/record.rt:48:5
 pub returns-clause-grew : goal.returns-clause-grew
-returns-clause-grew c = ?
+returns-clause-grew c =
+    valued_lighter c.args.self.now c.from.result c.args.value (omega arith)
+    (rw (c.from.ensures, c.requires.untold) (omega arith))

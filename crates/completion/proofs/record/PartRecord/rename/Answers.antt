@@ -1,19 +1,30 @@
-use Rattle.std.proofs.Common.{rules, ◌≡◌, ◌<◌, true, false, ◌↔◌, None, ℕ, ◌+◌, ◌-◌, ◌*◌, ◌≤◌, length, ◌/◌, ◌%◌, Bool, nat_eq, nat_lt, List, [], ◌∷◌, ◌++◌, slice_index_or, slice_set, bit_and, bit_or, Fits, w8, w32, w64, Bor, MutBor}
-use Rattle.completion.specs.Records.{Agree, Grew, alone, gained, key_features, renamed, valued, value_by, weight}
+use Rattle.std.proofs.Common.{◌≡◌, Some, None, slice_index_or, sym, ◌∙◌, arith}
+use Rattle.std.proofs.lemmas.List.{length-set, set-get_or}
+use Rattle.completion.proofs.Weighing.{value_is, value_stays, value_renamed, value_left, value_falls}
 use Rattle.completion.proofs.record.PartRecord.rename.Goals as goal
+use Rattle.completion.proofs.record.PartRecord.rename.Goals.{then-eq, else-eq}
 
--- src/record.rt:68:9
-pub loop-value-init : goal.loop-value-init
-loop-value-init c = ?
-
--- src/record.rt:68:9
 pub loop-value-preserved : goal.loop-value-preserved
-loop-value-preserved c = ?
-
--- src/record.rt:58:5
-pub returns-clause-after : goal.returns-clause-after
-returns-clause-after c = ?
-
--- src/record.rt:58:5
-pub returns-clause-grew : goal.returns-clause-grew
-returns-clause-grew c = ?
+loop-value-preserved c =
+    let i = c.loop-value.invariant in
+    let x = c.loop-value.value-index in
+    let vs = c.loop-value.value-items in
+    let from = c.args.from in
+    let to = c.args.to in
+    elim c.if-eq.branch [
+      | then-eq w ↦
+          let e = value_is (slice_index_or vs x None) from (sym c.eq.ensures ∙ w.if-eq.true) in
+          rw (w.grew-is, w.value-items-is) (record {
+            long = length-set vs x (Some to) ∙ i.long;
+            values = value_renamed from to x c.args.self.now.values vs (omega arith) (omega arith) i.values e;
+            grew = value_falls c.loop-value.grew _ _ x from to i.grew (omega arith) e c.requires;
+          })
+      | else-eq w ↦
+          let e = value_stays (slice_index_or vs x None) from to (sym c.eq.ensures ∙ w.if-eq.false) in
+          let same : c.if-eq.value-items ≡ vs = w.value-items-is ∙ set-get_or vs x None in
+          rw (w.grew-is, same) (record {
+            long = i.long;
+            values = value_left from to x c.args.self.now.values vs (omega arith) (omega arith) i.values e;
+            grew = i.grew;
+          })
+    ]
