@@ -1,2 +1,4 @@
 -- The laws behind completing.
 pub mod Going
+pub mod Keying
+pub mod Running

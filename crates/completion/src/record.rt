@@ -1,5 +1,6 @@
 // What is known of one part.
 ghost use Rattle.std.specs.Prelude.{◌≡◌, ◌<◌, true, false, ◌↔◌, None};
+ghost use Rattle.terms.specs.Rows.{lawful};
 
 use classes::ClassSet;
 use terms::row::Row;
@@ -75,6 +76,7 @@ impl PartRecord {
     }
     // Do the two parts have, by each feature of the key, values that are one object? No value agrees with an untold one.
     pub(crate) fn agrees(&self, other: &PartRecord, key: Row) -> bool
+        requires { lawful key ≡ true }
         ensures { (result ≡ true) ↔ Agree (key_features key) self.now other.now }
     {
         let used = &key.features[..usize::from(key.count).min(4)];

@@ -1,5 +1,6 @@
 // What the rules of a book say of parts.
 ghost use Rattle.std.specs.Prelude.{◌≡◌, ℕ, ◌<◌, true, false, ◌↔◌, List, length};
+ghost use Rattle.terms.specs.Rows.{lawful};
 ghost use Rattle.terms.specs.Worlds.{◌∈◌, Rule, key};
 ghost use Rattle.terms.specs.Facts.{Claim};
 ghost use Rattle.completion.specs.Records.{Agree, Has, Right, key_features, part_at};
@@ -66,6 +67,7 @@ impl<'a> Rules<'a> {
 
 // Are the two parts in the classes of the key, and do they agree on its features?
 fn is_keyed(parts: &[PartRecord; 256], row: Row, p: u8, q: u8) -> bool
+    requires { lawful row ≡ true }
     ensures { (result ≡ true) ↔ (Has (part_at parts.now p) row.left × Has (part_at parts.now q) row.right × Agree (key_features row) (part_at parts.now p) (part_at parts.now q)) }
 {
     let one = &parts[usize::from(p)];
@@ -134,6 +136,7 @@ impl<'a> Growth<'a> {
 
     // Where the two parts are in the classes of the key and agree on its features, they are one object.
     fn key(&mut self, row: Row, p: u8, q: u8)
+        requires { lawful row ≡ true }
         ensures went { Went self.old self.new }
         ensures closed { self.new.waiting.grown ≡ false → Keyed row self.new.parts p q }
         ensures right { (R : List Rule) (F : List Claim) → key row.left row.right (key_features row) ∈ R → Right R F self.old.parts → Right R F self.new.parts }
@@ -145,6 +148,7 @@ impl<'a> Growth<'a> {
 
     // The same for one part and every other.
     fn key_from(&mut self, row: Row, p: u8)
+        requires { lawful row ≡ true }
         ensures went { Went self.old self.new }
         ensures closed { self.new.waiting.grown ≡ false → (q : ℕ) → q < 256 → Keyed row self.new.parts p q }
         ensures right { (R : List Rule) (F : List Claim) → key row.left row.right (key_features row) ∈ R → Right R F self.old.parts → Right R F self.new.parts }
@@ -159,6 +163,7 @@ impl<'a> Growth<'a> {
 
     // The same for every two parts.
     fn key_all(&mut self, row: Row)
+        requires { lawful row ≡ true }
         ensures went { Went self.old self.new }
         ensures closed { self.new.waiting.grown ≡ false → KeyedBy row self.new.parts }
         ensures right { (R : List Rule) (F : List Claim) → key row.left row.right (key_features row) ∈ R → Right R F self.old.parts → Right R F self.new.parts }
@@ -171,7 +176,7 @@ impl<'a> Growth<'a> {
     // Adds what the keys say.
     pub(crate) fn keys(&mut self, rules: &Rules)
         ensures went { Went self.old self.new }
-        ensures closed { self.new.waiting.grown ≡ false → (k : ℕ) → k < length (key_rows rules.now) → KeyedBy (row_at rules.now k) self.new.parts }
+        ensures closed { self.new.waiting.grown ≡ false → (k : ℕ) → k < length (key_rows rules.now) → (row_at rules.now k).kind ≡ 5 → KeyedBy (row_at rules.now k) self.new.parts }
         ensures right { (F : List Claim) → Meant rules.now → Right (rules_in rules.now) F self.old.parts → Right (rules_in rules.now) F self.new.parts }
     {
         for row in rules.book.rows() {
