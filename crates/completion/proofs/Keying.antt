@@ -33,7 +33,6 @@ rule_in (r ∷ rows) (suc k) d h = Memᴰ.tail (rule_in rows k d (omega arith))
 key_rule : (r : Row) → r.kind ≡ 5 → key r.left r.right (key_features r) ≡ rule_of r
 key_rule r e = rw e
 
--- the key of a row of that kind
-pub key_in : (rows : List Row) (k : ℕ) (d : Row) → k < length rows → (get_or rows k d).kind ≡ 5
-    → key (get_or rows k d).left (get_or rows k d).right (key_features (get_or rows k d)) ∈ rules_of rows
-key_in rows k d h e = Memᴰ.cast (key_rule (get_or rows k d) e) (rule_in rows k d h)
+-- the key that such a row of the rows says
+pub key_in : (rows : List Row) (k : ℕ) (d : Row) (r : Row) → r ≡ get_or rows k d → k < length rows → r.kind ≡ 5 → key r.left r.right (key_features r) ∈ rules_of rows
+key_in rows k d r same h e = Memᴰ.cast (key_rule r e ∙ ap rule_of same) (rule_in rows k d h)
