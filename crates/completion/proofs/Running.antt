@@ -1,5 +1,5 @@
 -- Growths in a loop.
-use Rattle.std.proofs.Common.{◌≡◌, ℕ, ◌+◌, ◌<◌, true, false, List, ◌∷◌, length, Some, Option, refl, sym, ap, ◌∙◌, below_more, arith}
+use Rattle.std.proofs.Common.{◌≡◌, ℕ, ◌+◌, ◌<◌, ◌≤◌, true, false, List, ◌∷◌, length, Some, None, Option, refl, sym, ap, ◌∙◌, below_more, arith}
 use Rattle.queue.specs.Lines.{waiting}
 use Rattle.completion.specs.declared.record.PartRecord.{PartRecord}
 use Rattle.completion.specs.declared.waiting.Waiting.{Waiting}
@@ -15,4 +15,20 @@ pub still_below : {g h : Growth} (P : ℕ → List PartRecord → Type 0) (n : �
     → h.waiting.grown ≡ false → (k : ℕ) → k < n + 1 → P k h.parts
 still_below {h = h} P n w old new e = below_more (λ k. P k h.parts) n (still (λ ps. (k : ℕ) → k < n → P k ps) w old e) (new e)
 
--- a turn of the line
+shorter : (v w : List ℕ) (o : Option ℕ) → Shorter o v w → length w ≤ length v
+shorter v w None l = rw l (omega arith)
+shorter v w (Some p) l = rw l (omega arith)
+
+-- the line gives up a part, or none waits
+pub went_taken : (o : Option ℕ) (g h : Growth) → h.parts ≡ g.parts → h.waiting.grown ≡ g.waiting.grown → Shorter o (waiting g.waiting.line) (waiting h.waiting.line) → Went g h
+went_taken o g h p f l = record {
+  kept = λ c _ s. rw p s;
+  moved = record {
+    same = λ e. (sym f ∙ e, p);
+    lighter = rw (p, f) (let m = shorter _ _ o l in omega arith);
+  };
+}
+
+-- each part that the line gives up lightens the load
+pub load_taken : (ps : List PartRecord) (v w : Waiting) {p : ℕ} → w.grown ≡ v.grown → waiting v.line ≡ p ∷ waiting w.line → load ps w < load ps v
+load_taken ps v w f l = rw (f, l) (omega arith)

@@ -1,29 +1,27 @@
-use Rattle.std.proofs.Common.{rules, ◌≡◌, false, List, [], ◌∷◌, length, nat_le, IfOk, OnErr, ℕ, ◌+◌, ◌-◌, ◌*◌, ◌<◌, ◌≤◌, ◌/◌, ◌%◌, Bool, true, nat_eq, nat_lt, ◌++◌, slice_index_or, slice_set, bit_and, bit_or, Fits, w8, w32, w64, Bor, MutBor}
-use Rattle.queue.specs.Lines.{waiting}
-use Rattle.terms.specs.Refusals.{ask, asked, done}
-use Rattle.terms.specs.Facts.{Claim, claims_of}
-use Rattle.completion.specs.Records.{Kept, Led, Right}
-use Rattle.completion.specs.Growths.{Went}
-use Rattle.completion.specs.Closed.{Meant, Settled, rules_in}
-use Rattle.completion.specs.Whole.{Complete}
+use Rattle.std.proofs.Common.{Some, None, refl, arith}
+use Rattle.completion.proofs.Going.{went_none, went_then}
+use Rattle.completion.proofs.Running.{load_taken, went_taken}
 use Rattle.completion.proofs.growth.Growth.settle.Goals as goal
 
--- src/complete.rt:24:9
 pub loop-part-init : goal.loop-part-init
-loop-part-init c = ?
+loop-part-init c = record { went = went_none c.args.self.now; right = λ F m t. t }
 
--- src/complete.rt:24:9
 pub loop-part-smaller : goal.loop-part-smaller
-loop-part-smaller c = ?
+loop-part-smaller c =
+    let s = c.loop-part.self in
+    let t = load_taken s.parts s.waiting c.take.new.self c.in-Some.ensures.grown c.in-Some.ensures.line in
+    let v = c.visit.ensures.went.moved.lighter in
+    omega arith
 
--- src/complete.rt:24:9
 pub loop-part-preserved : goal.loop-part-preserved
-loop-part-preserved c = ?
+loop-part-preserved c =
+    let i = c.loop-part.invariant in record {
+      went = went_then (went_then i.went (went_taken (Some c.in-Some.part) c.loop-part.self _ refl c.in-Some.ensures.grown c.in-Some.ensures.line)) c.visit.ensures.went;
+      right = λ F m t. c.visit.ensures.right F m (i.right F m t);
+    }
 
--- src/complete.rt:20:5
 pub returns-clause-went : goal.returns-clause-went
-returns-clause-went c = ?
+returns-clause-went c = went_then c.loop-part.invariant.went (went_taken None c.loop-part.self _ refl c.in_default.ensures.grown c.in_default.ensures.line)
 
--- src/complete.rt:20:5
 pub returns-clause-right : goal.returns-clause-right
-returns-clause-right c = ?
+returns-clause-right c = c.loop-part.invariant.right
