@@ -1,8 +1,8 @@
 -- What keys say of parts.
-use Rattle.std.proofs.Common.{◌≡◌, ℕ, zero, suc, ◌<◌, List, [], ◌∷◌, length, get_or, refl, sym, ap, ◌∙◌, subst, arith}
+use Rattle.std.proofs.Common.{◌≡◌, ℕ, zero, suc, ◌<◌, List, [], ◌∷◌, length, get_or, refl, ap, ◌∙◌, arith}
 use mathlib.Core.List.Memᴰ
 use Rattle.terms.specs.declared.row.Row.{Row}
-use Rattle.terms.specs.Worlds.{◌∈◌, Rule, key, features_from, rule_of, rules_of}
+use Rattle.terms.specs.Worlds.{◌∈◌, Rule, key, rule_of, rules_of}
 use Rattle.terms.specs.Facts.{Claim, one_object}
 use Rattle.terms.specs.Completed.{Known, joined, keyed, on_none, on_one_more, turned}
 use Rattle.terms.specs.Completed as completed

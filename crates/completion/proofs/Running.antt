@@ -1,15 +1,14 @@
 -- Growths in a loop.
-use Rattle.std.proofs.Common.{◌≡◌, ℕ, ◌+◌, ◌<◌, ◌≤◌, true, false, List, ◌∷◌, length, Some, None, Option, refl, sym, ap, ◌∙◌, below_more, arith}
+use Rattle.std.proofs.Common.{◌≡◌, ℕ, ◌+◌, ◌<◌, ◌≤◌, true, false, List, length, Some, None, Option, sym, ◌∙◌, below_more, arith}
 use Rattle.std.proofs.lemmas.Bool.{true_from_ne_false}
 use Rattle.queue.specs.Lines.{waiting}
 use Rattle.completion.specs.declared.record.PartRecord.{PartRecord}
-use Rattle.completion.specs.declared.waiting.Waiting.{Waiting}
 use Rattle.completion.specs.declared.growth.Growth.{Growth}
-use Rattle.completion.specs.Lines.{Moved, Shorter, load}
+use Rattle.completion.specs.Lines.{Shorter}
 use Rattle.completion.specs.Growths.{Went}
 use Rattle.completion.proofs.Going.{still}
 
--- what holds of each number below n still holds after a growth, and with what holds of n then, it holds of each up to n
+-- what holds of each number below n where the flag is down still holds after a growth that makes it hold of n
 pub still_below : {g h : Growth} (P : ℕ → List PartRecord → Type 0) (n : ℕ) → Went g h
     → (g.waiting.grown ≡ false → (k : ℕ) → k < n → P k g.parts)
     → (h.waiting.grown ≡ false → P n h.parts)
@@ -30,14 +29,6 @@ went_taken o g h p f l = record {
   };
 }
 
--- each part that the line gives up lightens the load
-pub load_taken : (ps : List PartRecord) (v w : Waiting) {p : ℕ} → w.grown ≡ v.grown → waiting v.line ≡ p ∷ waiting w.line → load ps w < load ps v
-load_taken ps v w f l = rw (f, l) (omega arith)
-
 -- a flag that is up stays up
 pub still_grown : {g h : Growth} → Went g h → g.waiting.grown ≡ true → h.waiting.grown ≡ true
 still_grown {h = h} w t = true_from_ne_false h.waiting.grown (λ e. let f = (w.moved.same e).0 in cc)
-
--- putting the flag down lightens the load
-pub load_lowered : (ps : List PartRecord) (w : Waiting) → w.grown ≡ true → load ps (record w { grown = false }) < load ps w
-load_lowered ps w t = rw t (omega arith)

@@ -1,15 +1,8 @@
 use Rattle.std.proofs.Common.{ℕ, ◌<◌, arith}
 use Rattle.completion.specs.Closed.{Keyed}
-use Rattle.completion.proofs.Going.{went_none, went_then}
+use Rattle.completion.proofs.Going.{went_then}
 use Rattle.completion.proofs.Running.{still_below}
 use Rattle.completion.proofs.growth.Growth.key_all.Goals as goal
-
-pub loop-p-init : goal.loop-p-init
-loop-p-init c = record {
-  went = went_none c.args.self.now;
-  closed = λ e p h. absurd (omega arith);
-  right = λ R F k t. t;
-}
 
 pub loop-p-preserved : goal.loop-p-preserved
 loop-p-preserved c =
@@ -20,13 +13,10 @@ loop-p-preserved c =
       right = λ R F k t. a.right R F k (i.right R F k t);
     }
 
-pub returns-2-clause-went : goal.returns-2-clause-went
-returns-2-clause-went c = went_then c.loop-p.invariant.went c.key_from.ensures.went
-
 pub returns-2-clause-closed : goal.returns-2-clause-closed
-returns-2-clause-closed c = λ e p q h m.
+returns-2-clause-closed c e p q h m =
     let a = c.key_from.ensures in
     still_below (λ p ps. (q : ℕ) → q < 256 → Keyed c.args.row ps p q) c.loop-p.p a.went c.loop-p.invariant.closed a.closed e p (omega arith) q m
 
 pub returns-2-clause-right : goal.returns-2-clause-right
-returns-2-clause-right c = λ R F k t. c.key_from.ensures.right R F k (c.loop-p.invariant.right R F k t)
+returns-2-clause-right c R F k t = c.key_from.ensures.right R F k (c.loop-p.invariant.right R F k t)

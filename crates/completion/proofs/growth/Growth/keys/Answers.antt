@@ -1,6 +1,7 @@
-use Rattle.std.proofs.Common.{◌≡◌, ℕ, List, [], get_or, sym, ap, ◌∙◌, subst, arith}
+use Rattle.std.proofs.Common.{◌≡◌, ℕ, List, [], get_or, ap, ◌∙◌, subst}
 use Rattle.terms.specs.declared.row.Row.{Row}
 use Rattle.book.proofs.Legal.{lawful_at}
+use Rattle.completion.specs.declared.record.PartRecord.{PartRecord}
 use Rattle.completion.specs.Closed.{KeyedBy, key_rows, row_at, rules_in}
 use Rattle.completion.proofs.Going.{went_none, went_then}
 use Rattle.completion.proofs.Keying.{key_in}
@@ -10,13 +11,6 @@ use Rattle.completion.proofs.growth.Growth.keys.Goals.{then-row, else-row}
 
 abbrev blank : Row
 blank = record { kind = 0; left = 0; right = 0; count = 0; features = [] }
-
-pub loop-row-init : goal.loop-row-init
-loop-row-init c = record {
-  went = went_none c.args.self.now;
-  closed = λ e k h. absurd (omega arith);
-  right = λ F t. t;
-}
 
 pub key_all-requires : goal.key_all-requires
 key_all-requires c =
@@ -28,28 +22,24 @@ loop-row-preserved c =
     let r = c.args.rules.now in
     let n = c.loop-row.row-index in
     let i = c.loop-row.invariant in
-    let row : get_or c.rows-row-items.result.now n blank ≡ row_at r n = ap (λ l. get_or l n blank) c.rows-row-items.ensures in
     let h = rw c.rows-row-items.ensures at c.loop-row-test.true in
+    let row : get_or c.rows-row-items.result.now n blank ≡ row_at r n = ap (λ l. get_or l n blank) c.rows-row-items.ensures in
+    let P = λ (k : ℕ) (ps : List PartRecord). (row_at r k).kind ≡ 5 → KeyedBy (row_at r k) ps in
     elim c.if-row.branch [
       | then-row w ↦
           let a = w.key_all.ensures in
           rw w.self-is (record {
             went = went_then i.went a.went;
-            closed = still_below (λ k ps. (row_at r k).kind ≡ 5 → KeyedBy (row_at r k) ps) n a.went i.closed (λ e _. subst (λ (x : Row). KeyedBy x w.key_all.new.self.parts) row (a.closed e));
+            closed = still_below P n a.went i.closed (λ e _. subst (λ (x : Row). KeyedBy x w.key_all.new.self.parts) row (a.closed e));
             right = λ F t. a.right (rules_in r) F (key_in (key_rows r) n blank _ row h w.if-row.true) (i.right F t);
           })
       | else-row w ↦
           rw w.self-is (record {
             went = i.went;
-            closed = still_below (λ k ps. (row_at r k).kind ≡ 5 → KeyedBy (row_at r k) ps) n (went_none c.loop-row.self) i.closed (λ _ f. absurd (w.if-row.false (ap (λ (x : Row). x.kind) row ∙ f)));
+            closed = still_below P n (went_none c.loop-row.self) i.closed (λ _ f. absurd (w.if-row.false (ap (λ (x : Row). x.kind) row ∙ f)));
             right = i.right;
           })
     ]
 
-pub returns-clause-closed : goal.returns-clause-closed
-returns-clause-closed c = λ e k h.
-    let l = rw (← c.rows-row-items.ensures) at h in
-    c.loop-row.invariant.closed e k (omega arith)
-
 pub returns-clause-right : goal.returns-clause-right
-returns-clause-right c = λ F m t. c.loop-row.invariant.right F t
+returns-clause-right c F m t = c.loop-row.invariant.right F t

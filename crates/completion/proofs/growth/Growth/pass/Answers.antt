@@ -1,17 +1,10 @@
 use Rattle.std.proofs.Common.{ℕ, ◌<◌, List, arith}
 use Rattle.completion.specs.declared.record.PartRecord.{PartRecord}
 use Rattle.completion.specs.Closed.{Visited}
-use Rattle.completion.proofs.Going.{still, went_none, went_then}
+use Rattle.completion.proofs.Going.{still, went_then}
 use Rattle.completion.proofs.Running.{still_below}
 use Rattle.completion.proofs.growth.Growth.pass.Goals as goal
 use Rattle.completion.proofs.growth.Growth.pass.Goals.{else-loop-part-test, then-loop-part-test+else-part-lt255}
-
-pub loop-part-init : goal.loop-part-init
-loop-part-init c = record {
-  went = went_none c.args.self.now;
-  closed = λ e p h. absurd (omega arith);
-  right = λ F m t. t;
-}
 
 pub loop-part-preserved : goal.loop-part-preserved
 loop-part-preserved c =
@@ -25,6 +18,7 @@ loop-part-preserved c =
 pub returns : goal.returns
 returns c =
     let i = c.loop-part.invariant in
+    let P = λ (p : ℕ) (ps : List PartRecord). Visited c.args.rules.now ps p in
     elim c.loop-part-test.branch [
       | else-loop-part-test w ↦ absurd (omega arith)
       | then-loop-part-test+else-part-lt255 w ↦
@@ -32,8 +26,7 @@ returns c =
           let k = rw w.self-is at c.keys.ensures in record {
             went = went_then (went_then i.went v.went) k.went;
             closed = λ e. record {
-              parts = still (λ ps. (p : ℕ) → p < 256 → Visited c.args.rules.now ps p) k.went
-                  (λ f p l. still_below (λ p ps. Visited c.args.rules.now ps p) c.loop-part.part v.went i.closed v.closed f p (omega arith)) e;
+              parts = still (λ ps. (p : ℕ) → p < 256 → P p ps) k.went (λ f p l. still_below P c.loop-part.part v.went i.closed v.closed f p (omega arith)) e;
               keys = k.closed e;
             };
             right = λ F m t. k.right F m (v.right F m (i.right F m t));
