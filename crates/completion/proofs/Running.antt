@@ -1,6 +1,5 @@
 -- Growths in a loop.
-use Rattle.std.proofs.Common.{◌≡◌, ℕ, ◌+◌, ◌<◌, ◌≤◌, true, false, List, length, Some, None, Option, sym, ◌∙◌, below_more, arith}
-use Rattle.std.proofs.lemmas.Bool.{true_from_ne_false}
+use Rattle.std.proofs.Common.{◌≡◌, ℕ, ◌+◌, ◌<◌, ◌≤◌, false, List, length, Some, None, Option, sym, ◌∙◌, below_more, arith}
 use Rattle.queue.specs.Lines.{waiting}
 use Rattle.completion.specs.declared.record.PartRecord.{PartRecord}
 use Rattle.completion.specs.declared.growth.Growth.{Growth}
@@ -28,7 +27,3 @@ went_taken o g h p f l = record {
     lighter = rw (p, f) (let m = shorter _ _ o l in omega arith);
   };
 }
-
--- a flag that is up stays up
-pub still_grown : {g h : Growth} → Went g h → g.waiting.grown ≡ true → h.waiting.grown ≡ true
-still_grown {h = h} w t = true_from_ne_false h.waiting.grown (λ e. let f = (w.moved.same e).0 in cc)

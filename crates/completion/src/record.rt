@@ -1,6 +1,5 @@
 // What is known of one part.
 ghost use Rattle.std.specs.Prelude.{◌≡◌, ◌<◌, true, false, ◌↔◌, None};
-ghost use Rattle.terms.specs.Rows.{lawful};
 
 use classes::ClassSet;
 use terms::row::Row;
@@ -14,6 +13,7 @@ pub struct PartRecord {
 }
 
 impl PartRecord {
+    ghost use Rattle.terms.specs.Rows.{lawful};
     ghost use Rattle.completion.specs.Records.{Agree, Grew, alone, gained, key_features, renamed, valued, value_by, weight};
 
     // A part of which nothing is said but that it is itself.
