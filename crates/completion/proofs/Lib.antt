@@ -1,4 +1,9 @@
 -- The laws behind completing.
 pub mod Going
+pub mod Growing
+pub mod Renaming
+pub mod Following
 pub mod Keying
 pub mod Running
+pub mod Limits
+pub mod Exactly

@@ -6,3 +6,4 @@ pub mod Turns
 pub mod Sowing
 pub mod Working
 pub mod Retracing
+pub mod Ways

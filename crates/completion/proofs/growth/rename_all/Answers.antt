@@ -1,24 +1,28 @@
-use Rattle.std.proofs.Common.{rules, ◌≡◌, ℕ, ◌<◌, true, None, Some, List, ◌+◌, ◌-◌, ◌*◌, ◌≤◌, length, ◌/◌, ◌%◌, Bool, false, nat_eq, nat_lt, [], ◌∷◌, ◌++◌, slice_index_or, slice_set, bit_and, bit_or, Fits, w8, w32, w64, Bor, MutBor}
-use Rattle.classes.specs.Sets.{has}
-use Rattle.terms.specs.Worlds.{Rule}
-use Rattle.terms.specs.Facts.{Claim, in_class, value_at, one_object}
-use Rattle.terms.specs.Completed.{Known}
-use Rattle.completion.specs.Lines.{Moved}
-use Rattle.completion.specs.Records.{Has, Shape, Right, leader_of, part_at, value_by, renamed}
+use Rattle.std.proofs.Common.{◌≡◌, ℕ, length-set, set, ap, ◌∙◌, below_more, arith}
+use Rattle.completion.specs.Records.{part_at, renamed}
+use Rattle.completion.proofs.Going.{moved_none, moved_then}
+use Rattle.completion.proofs.Growing.{here, there, set_same, set_moved}
 use Rattle.completion.proofs.growth.rename_all.Goals as goal
+use Rattle.completion.proofs.growth.rename_all.Goals.{then-rename, else-rename}
 
--- src/growth.rt:30:5
-pub loop-part-init : goal.loop-part-init
-loop-part-init c = ?
-
--- src/growth.rt:30:5
 pub loop-part-preserved : goal.loop-part-preserved
-loop-part-preserved c = ?
-
--- src/growth.rt:25:1
-pub returns-clause-moved : goal.returns-clause-moved
-returns-clause-moved c = ?
-
--- src/growth.rt:25:1
-pub returns-clause-named : goal.returns-clause-named
-returns-clause-named c = ?
+loop-part-preserved c =
+    let i = c.loop-part.invariant in
+    let ps = c.args.parts.now in
+    let qs = c.loop-part.parts in
+    let k = c.loop-part.part in
+    let r = c.rename.new.self in
+    let other : (p : ℕ) → (p ≡ k → ⊥) → part_at (set qs k r) p ≡ part_at qs p = there qs k r i.long c.loop-part-test.true in
+    record {
+      long = length-set qs k r ∙ i.long;
+      named = below_more (λ p. part_at (set qs k r) p ≡ renamed c.args.from c.args.to (part_at ps p)) k
+          (λ p h. other p (λ e. omega arith) ∙ i.named p h)
+          (here qs k r i.long c.loop-part-test.true ∙ (c.rename.ensures.after ∙ ap (renamed c.args.from c.args.to) (i.later k (omega arith))));
+      later = λ p h. other p (λ e. omega arith) ∙ i.later p (omega arith);
+      moved = moved_then i.moved (elim c.if-rename.branch [
+        | then-rename w ↦ rw w.waiting-is
+            (set_moved qs k r i.long c.loop-part-test.true c.loop-part.waiting w.note.new.self
+            (c.rename.ensures.grew.more w.if-rename.true) w.note.ensures.grown w.note.ensures.line)
+        | else-rename w ↦ rw (w.waiting-is, set_same qs k r (c.rename.ensures.grew.none w.if-rename.false)) (moved_none qs c.loop-part.waiting)
+      ]);
+    }

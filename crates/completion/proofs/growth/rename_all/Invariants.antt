@@ -1,11 +1,12 @@
-use Rattle.std.proofs.Common.{◌≡◌, ℕ, ◌<◌, true, None, Some, List, ◌+◌, ◌-◌, ◌*◌, ◌≤◌, length}
-use Rattle.classes.specs.Sets.{has}
-use Rattle.terms.specs.Worlds.{Rule}
-use Rattle.terms.specs.Facts.{Claim, in_class, value_at, one_object}
-use Rattle.terms.specs.Completed.{Known}
+use Rattle.std.proofs.Common.{◌≡◌, ℕ, ◌<◌, ◌≤◌, length}
 use Rattle.completion.specs.Lines.{Moved}
-use Rattle.completion.specs.Records.{Has, Shape, Right, leader_of, part_at, value_by, renamed}
+use Rattle.completion.specs.Records.{part_at, renamed}
 use Rattle.completion.proofs.growth.rename_all.Given as goal
 
 abbrev pub invariant-loop-part : goal.invariant-loop-part
-invariant-loop-part l = ?
+invariant-loop-part l = record {
+  long : length l.parts ≡ 256;
+  named : (p : ℕ) → p < l.part → part_at l.parts p ≡ renamed l.from l.to (part_at l.initial.parts p);
+  later : (p : ℕ) → l.part ≤ p → part_at l.parts p ≡ part_at l.initial.parts p;
+  moved : Moved l.initial.parts l.initial.waiting l.parts l.waiting;
+}

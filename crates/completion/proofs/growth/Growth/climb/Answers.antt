@@ -1,11 +1,8 @@
-use Rattle.std.proofs.Common.{rules, ◌≡◌, ℕ, ◌<◌, true, false, ◌↔◌, List, length, ◌+◌, ◌-◌, ◌*◌, ◌≤◌, ◌/◌, ◌%◌, Bool, nat_eq, nat_lt, [], ◌∷◌, ◌++◌, slice_index_or, slice_set, bit_and, bit_or, Fits, w8, w32, w64, Bor, MutBor}
-use Rattle.terms.specs.Worlds.{◌∈◌, Rule, key}
-use Rattle.terms.specs.Facts.{Claim}
-use Rattle.completion.specs.Records.{Agree, Has, Right, key_features, part_at}
-use Rattle.completion.specs.Growths.{Went}
-use Rattle.completion.specs.Closed.{Meant, Handed, Climbed, Followed, Visited, Keyed, KeyedBy, Settled, rules_in, row_at, key_rows}
+use Rattle.std.proofs.Common.{◌<◌, arith}
+use Rattle.completion.proofs.Following.{climbed_known}
 use Rattle.completion.proofs.growth.Growth.climb.Goals as goal
 
--- src/rules.rt:97:5
 pub returns-clause-right : goal.returns-clause-right
-returns-clause-right c = ?
+returns-clause-right c F meant right =
+    let low : c.args.part < 256 = omega arith in
+    c.gain.ensures.right _ F (climbed_known meant (right c.args.part low) (rw c.from.ensures at c.climbed.ensures)) right

@@ -1,29 +1,51 @@
-use Rattle.std.proofs.Common.{rules, ◌≡◌, ℕ, ◌<◌, true, None, Some, List, ◌+◌, ◌-◌, ◌*◌, ◌≤◌, length, ◌/◌, ◌%◌, Bool, false, nat_eq, nat_lt, [], ◌∷◌, ◌++◌, slice_index_or, slice_set, bit_and, bit_or, Fits, w8, w32, w64, Bor, MutBor}
+use Rattle.std.proofs.Common.{◌≡◌, ℕ, true, set, arith}
 use Rattle.classes.specs.Sets.{has}
-use Rattle.terms.specs.Worlds.{Rule}
-use Rattle.terms.specs.Facts.{Claim, in_class, value_at, one_object}
-use Rattle.terms.specs.Completed.{Known}
-use Rattle.completion.specs.Lines.{Moved}
-use Rattle.completion.specs.Records.{Has, Shape, Right, leader_of, part_at, value_by, renamed}
-use Rattle.completion.specs.Growths.{Went, Fresh}
+use Rattle.completion.specs.Records.{Has, part_at, gained}
+use Rattle.completion.proofs.Growing.{here, set_shape, set_kept, set_moved, set_right, gained_has, gained_more, gained_right}
 use Rattle.completion.proofs.growth.Growth.gain.Goals as goal
+use Rattle.completion.proofs.growth.Growth.gain.Goals.{After-gain}
 
--- src/growth.rt:63:13
 pub invariant_of-self : goal.invariant_of-self
-invariant_of-self c = ?
+invariant_of-self c =
+    let g = c.args.self.now in
+    let p = c.args.part in
+    let r = part_at g.parts p in
+    let more = c.args.more in
+    rw (c.gain.ensures.after, c.from.ensures) (record {
+      shape = set_shape g.parts p (gained r more) (omega arith) (omega arith) (gained_more r more) g.shape (λ f v h. g.shape.lead p f v (omega arith) h);
+    })
 
--- src/growth.rt:57:5
 pub returns-then-gain-clause-went : goal.returns-then-gain-clause-went
-returns-then-gain-clause-went c = ?
+returns-then-gain-clause-went c =
+    let g = c.args.self.now in
+    let p = c.args.part in
+    let r = part_at g.parts p in
+    let more = c.args.more in
+    record {
+      kept = rw (c.gain.ensures.after, c.from.ensures) (set_kept g.parts p (gained r more) (omega arith) (omega arith) (gained_more r more));
+      moved = set_moved g.parts c.from.result c.gain.new.self (omega arith) (omega arith) g.waiting c.note.new.self
+          (c.gain.ensures.grew.more c.if-gain.true) c.note.ensures.grown c.note.ensures.line;
+    }
 
--- src/growth.rt:57:5
+-- the part is in the classes, whether or not any was new
+given : (c : After-gain) → (A : ℕ) → has c.args.more A ≡ true → Has (part_at (set c.args.self.now.parts c.from.result c.gain.new.self) c.args.part) A
+given c =
+    let ps = c.args.self.now.parts in
+    let p = c.args.part in
+    let r = part_at ps p in
+    let more = c.args.more in
+    rw (c.gain.ensures.after, c.from.ensures) (λ A h. rw (here ps p (gained r more) (omega arith) (omega arith)) (gained_has r more A h))
+
 pub returns-then-gain-clause-given : goal.returns-then-gain-clause-given
-returns-then-gain-clause-given c = ?
+returns-then-gain-clause-given c = given (goal.at.returns-then-gain-clause-given c).After-gain
 
--- src/growth.rt:57:5
-pub returns-then-gain-clause-right : goal.returns-then-gain-clause-right
-returns-then-gain-clause-right c = ?
-
--- src/growth.rt:57:5
 pub returns-else-gain-clause-given : goal.returns-else-gain-clause-given
-returns-else-gain-clause-given c = ?
+returns-else-gain-clause-given c = given (goal.at.returns-else-gain-clause-given c).After-gain
+
+pub returns-then-gain-clause-right : goal.returns-then-gain-clause-right
+returns-then-gain-clause-right c =
+    let g = c.args.self.now in
+    let p = c.args.part in
+    let r = part_at g.parts p in
+    let more = c.args.more in
+    rw (c.gain.ensures.after, c.from.ensures) (λ R F k. set_right g.parts p (gained r more) (omega arith) (omega arith) R F (gained_right R F p r more k))

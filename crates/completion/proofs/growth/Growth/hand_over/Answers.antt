@@ -1,27 +1,23 @@
-use Rattle.std.proofs.Common.{rules, ◌≡◌, ℕ, ◌<◌, true, false, ◌↔◌, List, length, ◌+◌, ◌-◌, ◌*◌, ◌≤◌, ◌/◌, ◌%◌, Bool, nat_eq, nat_lt, [], ◌∷◌, ◌++◌, slice_index_or, slice_set, bit_and, bit_or, Fits, w8, w32, w64, Bor, MutBor}
-use Rattle.terms.specs.Worlds.{◌∈◌, Rule, key}
-use Rattle.terms.specs.Facts.{Claim}
-use Rattle.completion.specs.Records.{Agree, Has, Right, key_features, part_at}
-use Rattle.completion.specs.Growths.{Went}
-use Rattle.completion.specs.Closed.{Meant, Handed, Climbed, Followed, Visited, Keyed, KeyedBy, Settled, rules_in, row_at, key_rows}
+-- Classes first, and then a value by each feature.
+use Rattle.std.proofs.Common.{◌+◌, sym, subst, arith}
+use Rattle.completion.proofs.Following.{Handing, handed_first, handed_value, handed_none}
 use Rattle.completion.proofs.growth.Growth.hand_over.Goals as goal
+use Rattle.completion.proofs.growth.Growth.hand_over.Goals.{in-Some, in_default}
 
--- src/rules.rt:88:9
 pub loop-feature-init : goal.loop-feature-init
-loop-feature-init c = ?
+loop-feature-init c =
+    let more = c.gain.ensures in
+    handed_first c.args.part (omega arith) more.went (rw c.from.ensures at more.given) (rw c.from.ensures at more.right)
 
--- src/rules.rt:88:9
 pub loop-feature-preserved : goal.loop-feature-preserved
-loop-feature-preserved c = ?
-
--- src/rules.rt:81:5
-pub returns-clause-went : goal.returns-clause-went
-returns-clause-went c = ?
-
--- src/rules.rt:81:5
-pub returns-clause-closed : goal.returns-clause-closed
-returns-clause-closed c = ?
-
--- src/rules.rt:81:5
-pub returns-clause-right : goal.returns-clause-right
-returns-clause-right c = ?
+loop-feature-preserved c =
+    let next = Handing c.args.self.now c.args.part (c.loop-feature.feature + 1) in
+    let i = c.loop-feature.invariant in
+    elim c.match-value.branch [
+      | in-Some w ↦
+          let more = w.value-in-Some.ensures in
+          let leader = w.leader-leader.ensures in
+          subst next (sym w.self-is) (handed_value w.in-Some.value (omega arith) (sym (rw c.from.ensures at w.in-Some.ensures)) i more.went (rw leader at more.given) (rw leader at more.right))
+      | in_default w ↦
+          subst next (sym w.self-is) (handed_none (sym (rw c.from.ensures at w.in_default.ensures)) i)
+    ]

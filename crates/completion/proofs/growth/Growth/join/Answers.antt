@@ -1,21 +1,24 @@
-use Rattle.std.proofs.Common.{rules, ◌≡◌, ℕ, ◌<◌, true, None, Some, List, ◌+◌, ◌-◌, ◌*◌, ◌≤◌, length, ◌/◌, ◌%◌, Bool, false, nat_eq, nat_lt, [], ◌∷◌, ◌++◌, slice_index_or, slice_set, bit_and, bit_or, Fits, w8, w32, w64, Bor, MutBor}
-use Rattle.classes.specs.Sets.{has}
-use Rattle.terms.specs.Worlds.{Rule}
-use Rattle.terms.specs.Facts.{Claim, in_class, value_at, one_object}
-use Rattle.terms.specs.Completed.{Known}
-use Rattle.completion.specs.Lines.{Moved}
-use Rattle.completion.specs.Records.{Has, Shape, Right, leader_of, part_at, value_by, renamed}
-use Rattle.completion.specs.Growths.{Went, Fresh}
+use Rattle.std.proofs.Common.{◌<◌, arith}
+use Rattle.completion.proofs.Renaming.{renamed_shape, renamed_kept, renamed_right}
 use Rattle.completion.proofs.growth.Growth.join.Goals as goal
 
--- src/growth.rt:88:9
 pub invariant_of-self : goal.invariant_of-self
-invariant_of-self c = ?
+invariant_of-self c =
+    let g = c.args.self.now in
+    let low : c.args.from < 256 = omega arith in
+    record { shape = renamed_shape c.args.from c.args.to g.parts c.rename_all.new.parts c.requires.lower low g.shape c.requires.leads c.rename_all.ensures.named }
 
--- src/growth.rt:81:5
 pub returns-clause-went : goal.returns-clause-went
-returns-clause-went c = ?
+returns-clause-went c =
+    let g = c.args.self.now in
+    let low : c.args.from < 256 = omega arith in
+    record {
+      kept = renamed_kept c.args.from c.args.to g.parts c.rename_all.new.parts c.requires.lower low g.shape c.requires.leads c.rename_all.ensures.named;
+      moved = c.rename_all.ensures.moved;
+    }
 
--- src/growth.rt:81:5
 pub returns-clause-right : goal.returns-clause-right
-returns-clause-right c = ?
+returns-clause-right c =
+    let g = c.args.self.now in
+    let low : c.args.from < 256 = omega arith in
+    renamed_right c.args.from c.args.to g.parts c.rename_all.new.parts c.requires.lower low g.shape c.requires.leads c.rename_all.ensures.named

@@ -1,21 +1,38 @@
-use Rattle.std.proofs.Common.{rules, ◌≡◌, ℕ, ◌<◌, true, None, Some, List, ◌+◌, ◌-◌, ◌*◌, ◌≤◌, length, ◌/◌, ◌%◌, Bool, false, nat_eq, nat_lt, [], ◌∷◌, ◌++◌, slice_index_or, slice_set, bit_and, bit_or, Fits, w8, w32, w64, Bor, MutBor}
-use Rattle.classes.specs.Sets.{has}
-use Rattle.terms.specs.Worlds.{Rule}
-use Rattle.terms.specs.Facts.{Claim, in_class, value_at, one_object}
-use Rattle.terms.specs.Completed.{Known}
-use Rattle.completion.specs.Lines.{Moved}
-use Rattle.completion.specs.Records.{Has, Shape, Right, leader_of, part_at, value_by, renamed}
-use Rattle.completion.specs.Growths.{Went, Fresh}
+use Rattle.std.proofs.Common.{arith}
+use Rattle.completion.specs.Records.{part_at, valued}
+use Rattle.completion.proofs.Growing.{set_shape, set_kept, set_moved, set_right, valued_leads, valued_more, valued_right}
 use Rattle.completion.proofs.growth.Growth.put.Goals as goal
 
--- src/growth.rt:77:9
 pub invariant_of-self : goal.invariant_of-self
-invariant_of-self c = ?
+invariant_of-self c =
+    let g = c.args.self.now in
+    let p = c.args.part in
+    let r = part_at g.parts p in
+    let f = c.args.feature in
+    let v = c.args.leader in
+    rw (c.put.ensures.after, c.from.ensures) (record {
+      shape = set_shape g.parts p (valued r f v) (omega arith) (omega arith) (valued_more r f v c.requires.untold) g.shape
+          (valued_leads g.parts r f v (omega arith) c.requires.leads (λ k w h. g.shape.lead p k w (omega arith) h));
+    })
 
--- src/growth.rt:68:5
 pub returns-clause-went : goal.returns-clause-went
-returns-clause-went c = ?
+returns-clause-went c =
+    let g = c.args.self.now in
+    let p = c.args.part in
+    let r = part_at g.parts p in
+    let f = c.args.feature in
+    let v = c.args.leader in
+    record {
+      kept = rw (c.put.ensures.after, c.from.ensures) (set_kept g.parts p (valued r f v) (omega arith) (omega arith) (valued_more r f v c.requires.untold));
+      moved = set_moved g.parts c.from.result c.put.new.self (omega arith) (omega arith) g.waiting c.note.new.self
+          c.put.ensures.grew c.note.ensures.grown c.note.ensures.line;
+    }
 
--- src/growth.rt:68:5
 pub returns-clause-right : goal.returns-clause-right
-returns-clause-right c = ?
+returns-clause-right c =
+    let g = c.args.self.now in
+    let p = c.args.part in
+    let r = part_at g.parts p in
+    let f = c.args.feature in
+    let v = c.args.leader in
+    rw (c.put.ensures.after, c.from.ensures) (λ R F k. set_right g.parts p (valued r f v) (omega arith) (omega arith) R F (valued_right R F p r f v k))

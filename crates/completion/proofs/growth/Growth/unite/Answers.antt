@@ -1,17 +1,20 @@
-use Rattle.std.proofs.Common.{rules, ◌≡◌, ℕ, ◌<◌, true, None, Some, List, ◌+◌, ◌-◌, ◌*◌, ◌≤◌, length, ◌/◌, ◌%◌, Bool, false, nat_eq, nat_lt, [], ◌∷◌, ◌++◌, slice_index_or, slice_set, bit_and, bit_or, Fits, w8, w32, w64, Bor, MutBor}
-use Rattle.classes.specs.Sets.{has}
-use Rattle.terms.specs.Worlds.{Rule}
-use Rattle.terms.specs.Facts.{Claim, in_class, value_at, one_object}
-use Rattle.terms.specs.Completed.{Known}
-use Rattle.completion.specs.Lines.{Moved}
-use Rattle.completion.specs.Records.{Has, Shape, Right, leader_of, part_at, value_by, renamed}
-use Rattle.completion.specs.Growths.{Went, Fresh}
+use Rattle.std.proofs.Common.{sym, subst, arith}
+use Rattle.terms.specs.Facts.{one_object}
+use Rattle.terms.specs.Completed.{Known, turned, joined}
 use Rattle.completion.proofs.growth.Growth.unite.Goals as goal
 
--- src/growth.rt:92:5
 pub returns-then-a-b-clause-right : goal.returns-then-a-b-clause-right
-returns-then-a-b-clause-right c = ?
+returns-then-a-b-clause-right c = λ R F k t.
+    let p = c.args.p in
+    let q = c.args.q in
+    let a = subst (λ n. Known R F (one_object p n)) (sym c.leader-a.ensures) (t p (omega arith)).leader in
+    let b = subst (λ n. Known R F (one_object q n)) (sym c.leader-b.ensures) (t q (omega arith)).leader in
+    c.join.ensures.right R F (joined (turned b) (joined (turned k) a)) t
 
--- src/growth.rt:92:5
 pub returns-then-b-a-clause-right : goal.returns-then-b-a-clause-right
-returns-then-b-a-clause-right c = ?
+returns-then-b-a-clause-right c = λ R F k t.
+    let p = c.args.p in
+    let q = c.args.q in
+    let a = subst (λ n. Known R F (one_object p n)) (sym c.leader-a.ensures) (t p (omega arith)).leader in
+    let b = subst (λ n. Known R F (one_object q n)) (sym c.leader-b.ensures) (t q (omega arith)).leader in
+    c.join-then-b-a.ensures.right R F (joined (turned a) (joined k b)) t

@@ -1,27 +1,28 @@
-use Rattle.std.proofs.Common.{rules, ◌≡◌, ℕ, ◌<◌, true, false, ◌↔◌, List, length, ◌+◌, ◌-◌, ◌*◌, ◌≤◌, ◌/◌, ◌%◌, Bool, nat_eq, nat_lt, [], ◌∷◌, ◌++◌, slice_index_or, slice_set, bit_and, bit_or, Fits, w8, w32, w64, Bor, MutBor}
-use Rattle.terms.specs.Worlds.{◌∈◌, Rule, key}
-use Rattle.terms.specs.Facts.{Claim}
-use Rattle.completion.specs.Records.{Agree, Has, Right, key_features, part_at}
-use Rattle.completion.specs.Growths.{Went}
-use Rattle.completion.specs.Closed.{Meant, Handed, Climbed, Followed, Visited, Keyed, KeyedBy, Settled, rules_in, row_at, key_rows}
+-- What each call closes stays closed while the flag is down.
+use Rattle.std.proofs.Common.{ℕ, ◌<◌, below_more, arith}
+use Rattle.completion.specs.Closed.{Handed, Climbed, Followed}
+use Rattle.completion.proofs.Going.{went_then, still}
 use Rattle.completion.proofs.growth.Growth.visit.Goals as goal
 
--- src/rules.rt:130:9
 pub loop-feature-init : goal.loop-feature-init
-loop-feature-init c = ?
+loop-feature-init c = record {
+  went = went_then c.hand_over.ensures.went c.climb.ensures.went;
+  handed = still (λ ps. Handed ps c.args.part) c.climb.ensures.went c.hand_over.ensures.closed;
+  climbed = c.climb.ensures.closed;
+  followed = λ e f h. absurd (omega arith);
+  right = λ F meant right. c.climb.ensures.right F meant (c.hand_over.ensures.right _ F right);
+}
 
--- src/rules.rt:130:9
 pub loop-feature-preserved : goal.loop-feature-preserved
-loop-feature-preserved c = ?
-
--- src/rules.rt:123:5
-pub returns-clause-went : goal.returns-clause-went
-returns-clause-went c = ?
-
--- src/rules.rt:123:5
-pub returns-clause-closed : goal.returns-clause-closed
-returns-clause-closed c = ?
-
--- src/rules.rt:123:5
-pub returns-clause-right : goal.returns-clause-right
-returns-clause-right c = ?
+loop-feature-preserved c =
+    let r = c.args.rules.now in
+    let p = c.args.part in
+    let n = c.loop-feature.feature in
+    let i = c.loop-feature.invariant in
+    let more = c.follow.ensures in record {
+      went = went_then i.went more.went;
+      handed = still (λ ps. Handed ps p) more.went i.handed;
+      climbed = still (λ ps. Climbed r ps p) more.went i.climbed;
+      followed = λ e. below_more (Followed r c.follow.new.self.parts p) n (still (λ ps. (f : ℕ) → f < n → Followed r ps p f) more.went i.followed e) (more.closed e);
+      right = λ F meant right. more.right F meant (i.right F meant right);
+    }
