@@ -3,6 +3,8 @@ pub mod Going
 pub mod Growing
 pub mod Renaming
 pub mod Following
+pub mod Keying
+pub mod Running
 pub mod Limits
 pub mod Exactly
 pub mod Weighing

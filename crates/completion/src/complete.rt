@@ -1,5 +1,5 @@
 // Completing, from a store's facts to records that hold all that follows from them.
-ghost use Rattle.std.specs.Prelude.{◌≡◌, false, List, [], ◌∷◌, length, nat_le, IfOk, OnErr};
+ghost use Rattle.std.specs.Prelude.{◌≡◌, true, false, List, [], ◌∷◌, length, nat_le, IfOk, OnErr};
 ghost use Rattle.queue.specs.Lines.{waiting};
 ghost use Rattle.terms.specs.Refusals.{ask, asked, done};
 ghost use Rattle.terms.specs.Facts.{Claim, claims_of};
@@ -40,6 +40,7 @@ impl<'a> Growth<'a> {
 
     // Adds all that the rules say: the parts that wait are looked at first, and a pass over all that adds nothing is the last.
     fn run(&mut self, rules: &Rules)
+        requires { self.old.waiting.grown ≡ true }
         ensures kept { Kept self.old.parts self.new.parts }
         ensures settled { Settled rules.now self.new.parts }
         ensures right { (F : List Claim) → Meant rules.now → Right (rules_in rules.now) F self.old.parts → Right (rules_in rules.now) F self.new.parts }

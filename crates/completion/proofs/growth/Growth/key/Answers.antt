@@ -1,11 +1,8 @@
-use Rattle.std.proofs.Common.{rules, ◌≡◌, ℕ, ◌<◌, true, false, ◌↔◌, List, length, ◌+◌, ◌-◌, ◌*◌, ◌≤◌, ◌/◌, ◌%◌, Bool, nat_eq, nat_lt, [], ◌∷◌, ◌++◌, slice_index_or, slice_set, bit_and, bit_or, Fits, w8, w32, w64, Bor, MutBor}
-use Rattle.terms.specs.Worlds.{◌∈◌, Rule, key}
-use Rattle.terms.specs.Facts.{Claim}
-use Rattle.completion.specs.Records.{Agree, Has, Right, key_features, part_at}
-use Rattle.completion.specs.Growths.{Went}
-use Rattle.completion.specs.Closed.{Meant, Handed, Climbed, Followed, Visited, Keyed, KeyedBy, Settled, rules_in, row_at, key_rows}
+use Rattle.std.proofs.Common.{arith}
+use Rattle.completion.proofs.Keying.{known_keyed}
 use Rattle.completion.proofs.growth.Growth.key.Goals as goal
 
--- src/rules.rt:136:5
 pub returns-then-is_keyed-clause-right : goal.returns-then-is_keyed-clause-right
-returns-then-is_keyed-clause-right c = ?
+returns-then-is_keyed-clause-right c R F k t =
+    let h = c.is_keyed.ensures.0 c.if-is_keyed.true in
+    c.unite.ensures.right R F (known_keyed c.args.self.now.parts c.args.row c.args.p c.args.q (omega arith) (omega arith) k t h.0 h.1 h.2) t

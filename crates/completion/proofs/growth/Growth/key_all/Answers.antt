@@ -1,27 +1,22 @@
-use Rattle.std.proofs.Common.{rules, ◌≡◌, ℕ, ◌<◌, true, false, ◌↔◌, List, length, ◌+◌, ◌-◌, ◌*◌, ◌≤◌, ◌/◌, ◌%◌, Bool, nat_eq, nat_lt, [], ◌∷◌, ◌++◌, slice_index_or, slice_set, bit_and, bit_or, Fits, w8, w32, w64, Bor, MutBor}
-use Rattle.terms.specs.Worlds.{◌∈◌, Rule, key}
-use Rattle.terms.specs.Facts.{Claim}
-use Rattle.completion.specs.Records.{Agree, Has, Right, key_features, part_at}
-use Rattle.completion.specs.Growths.{Went}
-use Rattle.completion.specs.Closed.{Meant, Handed, Climbed, Followed, Visited, Keyed, KeyedBy, Settled, rules_in, row_at, key_rows}
+use Rattle.std.proofs.Common.{ℕ, ◌<◌, arith}
+use Rattle.completion.specs.Closed.{Keyed}
+use Rattle.completion.proofs.Going.{went_then}
+use Rattle.completion.proofs.Running.{still_below}
 use Rattle.completion.proofs.growth.Growth.key_all.Goals as goal
 
--- src/rules.rt:166:9
-pub loop-p-init : goal.loop-p-init
-loop-p-init c = ?
-
--- src/rules.rt:166:9
 pub loop-p-preserved : goal.loop-p-preserved
-loop-p-preserved c = ?
+loop-p-preserved c =
+    let i = c.loop-p.invariant in
+    let a = c.key_from.ensures in record {
+      went = went_then i.went a.went;
+      closed = still_below (λ p ps. (q : ℕ) → q < 256 → Keyed c.args.row ps p q) c.loop-p.p a.went i.closed a.closed;
+      right = λ R F k t. a.right R F k (i.right R F k t);
+    }
 
--- src/rules.rt:161:5
-pub returns-2-clause-went : goal.returns-2-clause-went
-returns-2-clause-went c = ?
-
--- src/rules.rt:161:5
 pub returns-2-clause-closed : goal.returns-2-clause-closed
-returns-2-clause-closed c = ?
+returns-2-clause-closed c e p q h m =
+    let a = c.key_from.ensures in
+    still_below (λ p ps. (q : ℕ) → q < 256 → Keyed c.args.row ps p q) c.loop-p.p a.went c.loop-p.invariant.closed a.closed e p (omega arith) q m
 
--- src/rules.rt:161:5
 pub returns-2-clause-right : goal.returns-2-clause-right
-returns-2-clause-right c = ?
+returns-2-clause-right c R F k t = c.key_from.ensures.right R F k (c.loop-p.invariant.right R F k t)

@@ -1,27 +1,22 @@
-use Rattle.std.proofs.Common.{rules, ◌≡◌, ℕ, ◌<◌, true, false, ◌↔◌, List, length, ◌+◌, ◌-◌, ◌*◌, ◌≤◌, ◌/◌, ◌%◌, Bool, nat_eq, nat_lt, [], ◌∷◌, ◌++◌, slice_index_or, slice_set, bit_and, bit_or, Fits, w8, w32, w64, Bor, MutBor}
-use Rattle.terms.specs.Worlds.{◌∈◌, Rule, key}
-use Rattle.terms.specs.Facts.{Claim}
-use Rattle.completion.specs.Records.{Agree, Has, Right, key_features, part_at}
-use Rattle.completion.specs.Growths.{Went}
-use Rattle.completion.specs.Closed.{Meant, Handed, Climbed, Followed, Visited, Keyed, KeyedBy, Settled, rules_in, row_at, key_rows}
+use Rattle.std.proofs.Common.{arith}
+use Rattle.completion.specs.Closed.{Keyed}
+use Rattle.completion.proofs.Going.{went_then}
+use Rattle.completion.proofs.Running.{still_below}
 use Rattle.completion.proofs.growth.Growth.key_from.Goals as goal
 
--- src/rules.rt:155:9
-pub loop-q-init : goal.loop-q-init
-loop-q-init c = ?
-
--- src/rules.rt:155:9
 pub loop-q-preserved : goal.loop-q-preserved
-loop-q-preserved c = ?
+loop-q-preserved c =
+    let i = c.loop-q.invariant in
+    let a = c.key.ensures in record {
+      went = went_then i.went a.went;
+      closed = still_below (λ q ps. Keyed c.args.row ps c.args.p q) c.loop-q.q a.went i.closed a.closed;
+      right = λ R F k t. a.right R F k (i.right R F k t);
+    }
 
--- src/rules.rt:147:5
-pub returns-else-not-has-2-clause-went : goal.returns-else-not-has-2-clause-went
-returns-else-not-has-2-clause-went c = ?
-
--- src/rules.rt:147:5
 pub returns-else-not-has-2-clause-closed : goal.returns-else-not-has-2-clause-closed
-returns-else-not-has-2-clause-closed c = ?
+returns-else-not-has-2-clause-closed c e q h =
+    let a = c.key.ensures in
+    still_below (λ q ps. Keyed c.args.row ps c.args.p q) c.loop-q.q a.went c.loop-q.invariant.closed a.closed e q (omega arith)
 
--- src/rules.rt:147:5
 pub returns-else-not-has-2-clause-right : goal.returns-else-not-has-2-clause-right
-returns-else-not-has-2-clause-right c = ?
+returns-else-not-has-2-clause-right c R F k t = c.key.ensures.right R F k (c.loop-q.invariant.right R F k t)

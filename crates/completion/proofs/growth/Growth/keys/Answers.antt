@@ -1,27 +1,45 @@
-use Rattle.std.proofs.Common.{rules, ◌≡◌, ℕ, ◌<◌, true, false, ◌↔◌, List, length, ◌+◌, ◌-◌, ◌*◌, ◌≤◌, ◌/◌, ◌%◌, Bool, nat_eq, nat_lt, [], ◌∷◌, ◌++◌, slice_index_or, slice_set, bit_and, bit_or, Fits, w8, w32, w64, Bor, MutBor}
-use Rattle.terms.specs.Worlds.{◌∈◌, Rule, key}
-use Rattle.terms.specs.Facts.{Claim}
-use Rattle.completion.specs.Records.{Agree, Has, Right, key_features, part_at}
-use Rattle.completion.specs.Growths.{Went}
-use Rattle.completion.specs.Closed.{Meant, Handed, Climbed, Followed, Visited, Keyed, KeyedBy, Settled, rules_in, row_at, key_rows}
+use Rattle.std.proofs.Common.{◌≡◌, ℕ, List, [], get_or, ap, ◌∙◌, subst}
+use Rattle.terms.specs.declared.row.Row.{Row}
+use Rattle.book.proofs.Legal.{lawful_at}
+use Rattle.completion.specs.declared.record.PartRecord.{PartRecord}
+use Rattle.completion.specs.Closed.{KeyedBy, key_rows, row_at, rules_in}
+use Rattle.completion.proofs.Going.{went_none, went_then}
+use Rattle.completion.proofs.Keying.{key_in}
+use Rattle.completion.proofs.Running.{still_below}
 use Rattle.completion.proofs.growth.Growth.keys.Goals as goal
+use Rattle.completion.proofs.growth.Growth.keys.Goals.{then-row, else-row}
 
--- src/rules.rt:177:9
-pub loop-row-init : goal.loop-row-init
-loop-row-init c = ?
+abbrev blank : Row
+blank = record { kind = 0; left = 0; right = 0; count = 0; features = [] }
 
--- src/rules.rt:177:9
+pub key_all-requires : goal.key_all-requires
+key_all-requires c =
+    let h = rw c.rows-row-items.ensures at c.loop-row-test.true in
+    rw c.rows-row-items.ensures (lawful_at (key_rows c.args.rules.now) c.loop-row.row-index blank c.args.rules.now.book.now.lawful h)
+
 pub loop-row-preserved : goal.loop-row-preserved
-loop-row-preserved c = ?
+loop-row-preserved c =
+    let r = c.args.rules.now in
+    let n = c.loop-row.row-index in
+    let i = c.loop-row.invariant in
+    let h = rw c.rows-row-items.ensures at c.loop-row-test.true in
+    let row : get_or c.rows-row-items.result.now n blank ≡ row_at r n = ap (λ l. get_or l n blank) c.rows-row-items.ensures in
+    let P = λ (k : ℕ) (ps : List PartRecord). (row_at r k).kind ≡ 5 → KeyedBy (row_at r k) ps in
+    elim c.if-row.branch [
+      | then-row w ↦
+          let a = w.key_all.ensures in
+          rw w.self-is (record {
+            went = went_then i.went a.went;
+            closed = still_below P n a.went i.closed (λ e _. subst (λ (x : Row). KeyedBy x w.key_all.new.self.parts) row (a.closed e));
+            right = λ F t. a.right (rules_in r) F (key_in (key_rows r) n blank _ row h w.if-row.true) (i.right F t);
+          })
+      | else-row w ↦
+          rw w.self-is (record {
+            went = i.went;
+            closed = still_below P n (went_none c.loop-row.self) i.closed (λ _ f. absurd (w.if-row.false (ap (λ (x : Row). x.kind) row ∙ f)));
+            right = i.right;
+          })
+    ]
 
--- src/rules.rt:172:5
-pub returns-clause-went : goal.returns-clause-went
-returns-clause-went c = ?
-
--- src/rules.rt:172:5
-pub returns-clause-closed : goal.returns-clause-closed
-returns-clause-closed c = ?
-
--- src/rules.rt:172:5
 pub returns-clause-right : goal.returns-clause-right
-returns-clause-right c = ?
+returns-clause-right c F m t = c.loop-row.invariant.right F t

@@ -1,29 +1,34 @@
-use Rattle.std.proofs.Common.{rules, ◌≡◌, false, List, [], ◌∷◌, length, nat_le, IfOk, OnErr, ℕ, ◌+◌, ◌-◌, ◌*◌, ◌<◌, ◌≤◌, ◌/◌, ◌%◌, Bool, true, nat_eq, nat_lt, ◌++◌, slice_index_or, slice_set, bit_and, bit_or, Fits, w8, w32, w64, Bor, MutBor}
-use Rattle.queue.specs.Lines.{waiting}
-use Rattle.terms.specs.Refusals.{ask, asked, done}
-use Rattle.terms.specs.Facts.{Claim, claims_of}
-use Rattle.completion.specs.Records.{Kept, Led, Right}
-use Rattle.completion.specs.Growths.{Went}
-use Rattle.completion.specs.Closed.{Meant, Settled, rules_in}
-use Rattle.completion.specs.Whole.{Complete}
+use Rattle.std.proofs.Common.{ℕ, ◌<◌, List, arith}
+use Rattle.completion.specs.declared.record.PartRecord.{PartRecord}
+use Rattle.completion.specs.Closed.{Visited}
+use Rattle.completion.proofs.Going.{still, went_then}
+use Rattle.completion.proofs.Running.{still_below}
 use Rattle.completion.proofs.growth.Growth.pass.Goals as goal
+use Rattle.completion.proofs.growth.Growth.pass.Goals.{else-loop-part-test, then-loop-part-test+else-part-lt255}
 
--- src/complete.rt:35:9
-pub loop-part-init : goal.loop-part-init
-loop-part-init c = ?
-
--- src/complete.rt:35:9
 pub loop-part-preserved : goal.loop-part-preserved
-loop-part-preserved c = ?
+loop-part-preserved c =
+    let i = c.loop-part.invariant in
+    let v = c.visit.ensures in record {
+      went = went_then i.went v.went;
+      closed = still_below (λ p ps. Visited c.args.rules.now ps p) c.loop-part.part v.went i.closed v.closed;
+      right = λ F m t. v.right F m (i.right F m t);
+    }
 
--- src/complete.rt:30:5
-pub returns-clause-went : goal.returns-clause-went
-returns-clause-went c = ?
-
--- src/complete.rt:30:5
-pub returns-clause-closed : goal.returns-clause-closed
-returns-clause-closed c = ?
-
--- src/complete.rt:30:5
-pub returns-clause-right : goal.returns-clause-right
-returns-clause-right c = ?
+pub returns : goal.returns
+returns c =
+    let i = c.loop-part.invariant in
+    let P = λ (p : ℕ) (ps : List PartRecord). Visited c.args.rules.now ps p in
+    elim c.loop-part-test.branch [
+      | else-loop-part-test w ↦ absurd (omega arith)
+      | then-loop-part-test+else-part-lt255 w ↦
+          let v = w.visit.ensures in
+          let k = rw w.self-is at c.keys.ensures in record {
+            went = went_then (went_then i.went v.went) k.went;
+            closed = λ e. record {
+              parts = still (λ ps. (p : ℕ) → p < 256 → P p ps) k.went (λ f p l. still_below P c.loop-part.part v.went i.closed v.closed f p (omega arith)) e;
+              keys = k.closed e;
+            };
+            right = λ F m t. k.right F m (v.right F m (i.right F m t));
+          }
+    ]
