@@ -1,5 +1,5 @@
 -- How the records of all parts grow, from one call to the next; no public call cites this file.
-use Rattle.std.specs.Prelude.{◌≡◌, ℕ, ◌<◌, true, [], length}
+use Rattle.std.specs.Prelude.{◌≡◌, ℕ, ◌<◌, true, []}
 use Rattle.queue.specs.Lines.{waiting}
 use Rattle.completion.specs.declared.growth.Growth.{Growth}
 use Rattle.completion.specs.Records.{Kept, alone, part_at}

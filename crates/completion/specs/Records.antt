@@ -1,8 +1,8 @@
 -- The records of parts: what they say, and how one grows.
-use Rattle.std.specs.Prelude.{◌≡◌, ℕ, ◌+◌, ◌-◌, ◌^◌, ◌<◌, ◌≤◌, Bool, true, false, cond, List, [], ◌∷◌, map, length, Some, None, Option, ◌==◌, slice_index_or, slice_set}
+use Rattle.std.specs.Prelude.{◌≡◌, ℕ, ◌+◌, ◌-◌, ◌^◌, ◌<◌, ◌≤◌, Bool, true, false, cond, List, [], ◌∷◌, map, Some, None, Option, ◌==◌, slice_index_or, slice_set}
 use Rattle.std.proofs.Math.ListN.{replicate}
 use Rattle.classes.specs.declared.ClassSet.{ClassSet}
-use Rattle.classes.specs.Sets.{has, none, joined} 
+use Rattle.classes.specs.Sets.{has, none, joined}
 use Rattle.classes.specs.Sets as sets
 use Rattle.terms.specs.declared.row.Row.{Row}
 use Rattle.terms.specs.Worlds.{◌∈◌, Rule, features_from}

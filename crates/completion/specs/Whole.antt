@@ -1,5 +1,5 @@
 -- The completed facts, as records of parts.
-use Rattle.std.specs.Prelude.{◌≡◌, ℕ, true, List, Some, None, Option}
+use Rattle.std.specs.Prelude.{ℕ, List, Some, None, Option}
 use Rattle.std.proofs.Math.Option.{none, some}
 use Rattle.terms.specs.Worlds.{rules_of}
 use Rattle.terms.specs.Facts.{Claim}

@@ -80,7 +80,7 @@ impl PartRecord {
         ensures { (result ≡ true) ↔ Agree (key_features key) self.now other.now }
     {
         let used = &key.features[..usize::from(key.count).min(4)];
-        used.iter()
-            .all(|feature| self.value(*feature).is_some() && self.value(*feature) == other.value(*feature))
+        used.iter().all(|feature| self.value(*feature).is_some()
+            && self.value(*feature) == other.value(*feature))
     }
 }
