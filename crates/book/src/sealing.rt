@@ -11,7 +11,7 @@ use crate::links::{FeatureLinks, Links};
 use classes::ClassSet;
 
 // Of the class steps, `within` has a set for each class, and `leads` for each feature a set for each class.
-#[derive(Drop)]
+#[derive(Clone, Copy)]
 pub struct StepTables {
     pub within: [ClassSet; 64],
     pub leads: [[ClassSet; 64]; 16],
