@@ -41,7 +41,7 @@ impl ClassPair {
         }
     }
 
-    // The place of the pair among the 2,080.
+    // The place of the pair among the 2,080: a table of 64 by 64 would have a second place for each pair of two classes, and the count of places bounds a way's letters.
     fn place(self) -> usize
         requires { Proper self }
         ensures { result ≡ place_of self }
