@@ -1,11 +1,10 @@
 -- Setting out: every two classes of one part are met.
-use Rattle.std.proofs.Common.{◌≡◌, ℕ, ◌+◌, ◌<◌, ◌≤◌, ◌⊎◌, List, [], ◌∷◌, ◌++◌, length, set, Some, is_none, Option, sym, refl, ap, ◌∙◌, subst, inl, inr, arith}
+use Rattle.std.proofs.Common.{◌≡◌, ℕ, ◌+◌, ◌<◌, ◌≤◌, true, ◌⊎◌, List, [], ◌∷◌, ◌++◌, length, set, Some, is_none, Option, sym, refl, ap, ◌∙◌, subst, inl, inr, arith}
 use Rattle.std.proofs.lemmas.List.{get_or_past}
-use Rattle.std.proofs.lemmas.Bool.{false≢true}
 use Rattle.std.proofs.lemmas.List.Sums.{count_by-le-length}
 use Rattle.classes.specs.declared.ClassSet.{ClassSet}
 use Rattle.classes.specs.Sets.{has, none, Took}
-use Rattle.classes.proofs.Members.{has_none}
+use Rattle.classes.proofs.Members.{not_in_none}
 use Rattle.book.specs.declared.sealed.Book.{Book}
 use Rattle.book.specs.Tables.{set_at, At}
 use Rattle.search.specs.declared.ClassPair.{ClassPair}
@@ -45,7 +44,7 @@ shallow T s = omega (arith, count_by-le-length (λ (e : Option Trace). is_none e
 
 pub sown_all : (P : List ClassSet) (T : List (Option Trace)) (k : ℕ) → length P ≤ k → Done (Sown P) (From k) T 1 → Sources P T
 sown_all P T k l d p a c x y = elim (d p a c (x, y)) [
-  | inl h ↦ absurd (false≢true (sym (has_none a) ∙ ap (λ (s : ClassSet). has s a) (sym (get_or_past P p none (omega arith))) ∙ x))
+  | inl h ↦ not_in_none a (subst (λ (s : ClassSet). has s a ≡ true) (get_or_past P p none (omega arith)) x)
   | inr n ↦ n
 ]
 

@@ -1,10 +1,10 @@
 -- Turns of the loops: what is still to do, and one pair more that is met.
 use Rattle.std.proofs.Common.{◌≡◌, ℕ, ◌+◌, ◌^◌, ◌<◌, ◌≤◌, true, not, ◌&&◌, ◌⊎◌, List, [], ◌∷◌, ◌++◌, length, set, Some, Option, sym, ap, ◌∙◌, subst, inl, inr, append_assoc, arith}
 use Rattle.std.proofs.lemmas.List.{length_push}
-use Rattle.std.proofs.lemmas.Bool.{cases_eq, cases_Bool, both_ways, false≢true, ne_eqb, eqb-false, and_parts, and_from, not-true, not_from_false}
+use Rattle.std.proofs.lemmas.Bool.{cases_eq, cases_Bool, both_ways, ne_eqb, eqb-false, and_parts, and_from, not-true, not_from_false}
 use Rattle.classes.specs.declared.ClassSet.{ClassSet}
 use Rattle.classes.specs.Sets.{has, none, weight, Took}
-use Rattle.classes.proofs.Members.{has_none, has_low}
+use Rattle.classes.proofs.Members.{not_in_none, has_low}
 use Rattle.book.specs.declared.sealed.Book.{Book}
 use Rattle.book.specs.Tables.{set_at}
 use Rattle.search.specs.declared.ClassPair.{ClassPair}
@@ -49,9 +49,6 @@ Rows k s g c d = (k < g) ⊎ ((g ≡ k) × (has s c ≡ true))
 -- besides, with class a the partners of r
 abbrev pub Cells : ℕ → ClassSet → ℕ → ClassSet → ℕ → ℕ → ℕ → Type 0
 Cells k s a r g c d = (k < g) ⊎ ((g ≡ k) × ((has s c ≡ true) ⊎ ((c ≡ a) × (has r d ≡ true))))
-
-not_in_none : {X : Type 0} (s : ClassSet) (c : ℕ) → s ≡ none → has s c ≡ true → X
-not_in_none s c e h = absurd (false≢true (sym (has_none c) ∙ ap (λ (x : ClassSet). has x c) (sym e) ∙ h))
 
 -- what is left once the lowest class is taken
 left_over : {s t : ClassSet} {k : ℕ} (c : ℕ) → Took s k t → has s c ≡ true → (c ≡ k → ⊥) → has t c ≡ true
@@ -110,14 +107,14 @@ module _ (A : ℕ → ℕ → ℕ → Type 0) (T : List (Option Trace)) (n k : �
   done_row s a r e h g c d x = elim (h g c d x) [
     | inl y ↦ elim y [
       | inl lt ↦ inl (inl lt)
-      | inr z ↦ elim z.1 [ inl m ↦ inl (inr (z.0, m)) | inr m ↦ not_in_none r d e m.1 ]
+      | inr z ↦ elim z.1 [ inl m ↦ inl (inr (z.0, m)) | inr m ↦ not_in_none d (subst (λ (x : ClassSet). has x d ≡ true) e m.1) ]
     ]
     | inr y ↦ inr y
   ]
 
   pub done_all : (s : ClassSet) → s ≡ none → Done A (Rows k s) T n → Done A (From (k + 1)) T n
   done_all s e h g c d x = elim (h g c d x) [
-    | inl y ↦ elim y [ inl lt ↦ inl (omega arith) | inr z ↦ not_in_none s c e z.1 ]
+    | inl y ↦ elim y [ inl lt ↦ inl (omega arith) | inr z ↦ not_in_none c (subst (λ (x : ClassSet). has x c ≡ true) e z.1) ]
     | inr y ↦ inr y
   ]
 

@@ -1,9 +1,9 @@
 -- Working on a pair that left the line, and what an empty line says.
-use Rattle.std.proofs.Common.{◌≡◌, ℕ, ◌+◌, ◌<◌, ◌≤◌, ◌&&◌, ltb, ◌⊎◌, List, [], ◌∷◌, ◌++◌, length, set, Some, Option, sym, refl, ap, ◌∙◌, subst, inl, inr, append-nil, arith}
-use Rattle.std.proofs.lemmas.Bool.{cases_lt, false≢true, le-ltb, and_right, cond-false}
+use Rattle.std.proofs.Common.{◌≡◌, ℕ, ◌+◌, ◌<◌, ◌≤◌, true, ◌&&◌, ltb, ◌⊎◌, List, [], ◌∷◌, ◌++◌, length, set, Some, Option, sym, refl, ap, ◌∙◌, subst, inl, inr, append-nil, arith}
+use Rattle.std.proofs.lemmas.Bool.{cases_lt, le-ltb, and_right, cond-false}
 use Rattle.classes.specs.declared.ClassSet.{ClassSet}
 use Rattle.classes.specs.Sets.{has, none, Took}
-use Rattle.classes.proofs.Members.{has_none}
+use Rattle.classes.proofs.Members.{not_in_none}
 use Rattle.book.specs.declared.sealed.Book.{Book}
 use Rattle.book.specs.Books.{leads_set}
 use Rattle.search.specs.declared.ClassPair.{ClassPair}
@@ -34,7 +34,7 @@ lead_low b x f c h = elim (cases_lt f 16) [
   | inl l ↦ l
   | inr g ↦
       let e : leads_set b x f ≡ none = cond-false (ltb x 64 && ltb f 16) _ none (and_right (ltb x 64) (ltb f 16) (le-ltb f 16 g)) in
-      absurd (false≢true (sym (has_none c) ∙ ap (λ (s : ClassSet). has s c) (sym e) ∙ h))
+      not_in_none c (subst (λ (s : ClassSet). has s c ≡ true) e h)
 ]
 
 -- all that a closed pair leads to is met, whichever of its classes comes first

@@ -4,7 +4,7 @@ use Rattle.terms.specs.Refusals.{Question, ask, asked, AllYes, FirstNo, Answers}
 
 module _ {A : Type 0} (x : A) where
   ok_not : (n : ℕ) → ◌≡◌ {A = Result A ℕ} (Err n) (Ok x) → ⊥
-  ok_not n e = let z : ◌≡◌ {A = ℕ} 0 1 = cc in omega arith
+  ok_not n e = cc
 
   -- a question and those after it, by its answer
   yes_on : (q : Question) (qs : List Question) → q.holds ≡ true → asked (q ∷ qs) x ≡ asked qs x

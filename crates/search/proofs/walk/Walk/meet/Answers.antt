@@ -16,7 +16,7 @@ one_more W q (Err x) = omega arith
 
 taken : (W : List ClassPair) (q : ClassPair) (r : Result (Unit {0}) Refusal) → numbered r ≡ Ok tt → lengthened r W q ≡ W ++ q ∷ []
 taken W q (Ok a) e = refl
-taken W q (Err x) e = absurd (let z : ◌≡◌ {A = ℕ} 0 1 = cc in omega arith)
+taken W q (Err x) e = cc
 
 pub invariant_of-self-clause-room : goal.invariant_of-self-clause-room
 invariant_of-self-clause-room c =
