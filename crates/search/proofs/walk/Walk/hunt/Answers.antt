@@ -8,8 +8,8 @@ use Rattle.queue.specs.Lines.{waiting}
 use Rattle.search.specs.Pairs.{mark, mark_of}
 use Rattle.search.specs.Rows.{Excludes}
 use Rattle.search.specs.Search.{Hunted}
-use Rattle.search.proofs.Turns.{done_first, done_rows, done_cells, done_row, done_all, fresh_first, met_or_fresh, was_there}
-use Rattle.search.proofs.Working.{Led, taken, worked, no_path, low, pair_proper, pair_new, pair_turned, pair_struck}
+use Rattle.search.proofs.Turns.{done_first, done_rows, done_cells, done_row, done_all, fresh_first, met_or_fresh, was_there, new_pair, new_proper, turned, struck}
+use Rattle.search.proofs.Working.{Led, taken, worked, no_path, least, low, goes_on, pair}
 use Rattle.search.proofs.walk.Walk.hunt.Goals as goal
 
 pub entry-depth-requires : goal.entry-depth-requires
@@ -26,7 +26,7 @@ overflow_add-depth c =
     let T = c.search.self.trail.trace in
     let p = c.in-Some-pop.from in
     let m = taken v.parts.now v.book.now (waiting c.search.self.queue) (waiting c.pop.new.self) T p (mark_of T p) c.search.invariant.1 c.in-Some-pop.ensures.taken refl in
-    omega (arith, low v.parts.now v.book.now (waiting c.pop.new.self) T p (mark_of T p) m, ap mark c.entry-depth.ensures)
+    omega (arith, low v.parts.now v.book.now m, ap mark c.entry-depth.ensures)
 
 pub loop-letter-init : goal.loop-letter-init
 loop-letter-init c =
@@ -99,25 +99,25 @@ meet-requires c =
     let v = c.args.self.now in
     let i = c.loop-d.invariant in
     let w = c.in-Some-c.ensures.steps in
-    let a = c.in-Some-c.c in record {
-      proper = pair_proper v.parts.now v.book.now (waiting c.loop-d.self.queue) c.loop-d.self.trail.trace c.in-Some-pop.from (c.entry-depth.result.depth + 1) i.1 c.loop-d.self.trail.size c.loop-letter.letter c.next.new.self.rest a w.low (c.loop-c.invariant.5 a w.was)
-          c.loop-d.d-iterator.rest c.next-in-loop-d.new.self.rest c.in-Some-d.d i.5 c.in-Some-d.ensures.steps c.of-pair.result c.of-pair.ensures;
-      unmet = pair_new v.parts.now v.book.now (waiting c.loop-d.self.queue) c.loop-d.self.trail.trace c.in-Some-pop.from (c.entry-depth.result.depth + 1) i.1 c.loop-d.self.trail.size c.loop-letter.letter c.next.new.self.rest a w.low (c.loop-c.invariant.5 a w.was)
-          c.loop-d.d-iterator.rest c.next-in-loop-d.new.self.rest c.in-Some-d.d i.5 c.in-Some-d.ensures.steps c.of-pair.result c.of-pair.ensures;
-    }
+    let t = pair v.parts.now v.book.now i.1 c.loop-d.self.trail.size c.loop-letter.letter w.low (c.loop-c.invariant.5 c.in-Some-c.c w.was) i.5 c.in-Some-d.ensures.steps c.of-pair.ensures in
+    record { proper = new_proper t; unmet = new_pair t }
 
 pub loop-d-preserved : goal.loop-d-preserved
 loop-d-preserved c =
     let v = c.args.self.now in
     let i = c.loop-d.invariant in
     let w = c.in-Some-c.ensures.steps in
-    let a = c.in-Some-c.c in
     let m = c.meet.ensures in
     let x = subst (λ (y : Book). (j : ℕ) → Excludes y j c.of-pair.result → ⊥) i.0.1 c.in_default-meet.ensures.row in
-    let n = pair_turned v.parts.now v.book.now (waiting c.loop-d.self.queue) c.loop-d.self.trail.trace c.in-Some-pop.from (c.entry-depth.result.depth + 1) i.1 c.loop-d.self.trail.size c.loop-letter.letter c.next.new.self.rest a w.low (c.loop-c.invariant.5 a w.was)
-    c.loop-d.d-iterator.rest c.next-in-loop-d.new.self.rest c.in-Some-d.d i.5 c.in-Some-d.ensures.steps c.of-pair.result c.of-pair.ensures
-    c.meet.new.self.trail.trace m.marked (waiting c.meet.new.self.queue) m.line x i.2 in
-    ((m.same.0 ∙ i.0.0, m.same.1 ∙ i.0.1), n.1, n.0.done, omega (arith, n.0.same, i.3), i.4, n.0.fresh)
+    let t = pair v.parts.now v.book.now i.1 c.loop-d.self.trail.size c.loop-letter.letter w.low (c.loop-c.invariant.5 c.in-Some-c.c w.was) i.5 c.in-Some-d.ensures.steps c.of-pair.ensures in
+    let n = turned t m.marked (Led v.book.now c.in-Some-pop.from) c.loop-letter.letter c.next.new.self.rest m.line x i.2 in (
+      (m.same.0 ∙ i.0.0, m.same.1 ∙ i.0.1),
+      goes_on v.parts.now v.book.now i.1 n.met n.stays,
+      n.done,
+      omega (arith, n.same, i.3),
+      i.4,
+      n.fresh,
+    )
 
 pub loop-c-preserved : goal.loop-c-preserved
 loop-c-preserved c =
@@ -145,14 +145,10 @@ returns-in-Some-meet c =
     let v = c.args.self.now in
     let i = c.loop-d.invariant in
     let w = c.in-Some-c.ensures.steps in
-    let a = c.in-Some-c.c in
     let m = c.meet.ensures in
-    let x = subst (λ (y : Book). Excludes y c.in-Some-meet.row c.of-pair.result) i.0.1 c.in-Some-meet.ensures.row in record {
-      same = (m.same.0 ∙ i.0.0, m.same.1 ∙ i.0.1);
-      hunted = pair_struck v.parts.now v.book.now (waiting c.loop-d.self.queue) c.loop-d.self.trail.trace c.in-Some-pop.from (c.entry-depth.result.depth + 1) i.1 c.loop-d.self.trail.size c.loop-letter.letter c.next.new.self.rest a w.low (c.loop-c.invariant.5 a w.was)
-          c.loop-d.d-iterator.rest c.next-in-loop-d.new.self.rest c.in-Some-d.d i.5 c.in-Some-d.ensures.steps c.of-pair.result c.of-pair.ensures
-          c.meet.new.self.trail.trace m.marked c.in-Some-meet.row x;
-    }
+    let x = subst (λ (y : Book). Excludes y c.in-Some-meet.row c.of-pair.result) i.0.1 c.in-Some-meet.ensures.row in
+    let t = pair v.parts.now v.book.now i.1 c.loop-d.self.trail.size c.loop-letter.letter w.low (c.loop-c.invariant.5 c.in-Some-c.c w.was) i.5 c.in-Some-d.ensures.steps c.of-pair.ensures in
+    record { same = (m.same.0 ∙ i.0.0, m.same.1 ∙ i.0.1); hunted = struck t m.marked c.in-Some-meet.row x (least v.parts.now v.book.now i.1) }
 
 pub returns-in_default-pop : goal.returns-in_default-pop
 returns-in_default-pop c =

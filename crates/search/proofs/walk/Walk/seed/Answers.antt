@@ -6,8 +6,8 @@ use Rattle.book.specs.declared.sealed.Book.{Book}
 use Rattle.book.specs.Tables.{set_at}
 use Rattle.queue.specs.Lines.{waiting}
 use Rattle.search.specs.Rows.{Excludes}
-use Rattle.search.proofs.Turns.{done_first, done_rows, done_cells, done_row, done_all, fresh_first, met_or_fresh, was_there}
-use Rattle.search.proofs.Sowing.{Sown, met_first, sown_all, sown_proper, sown_new, sown_turned, sown_struck}
+use Rattle.search.proofs.Turns.{done_first, done_rows, done_cells, done_row, done_all, fresh_first, met_or_fresh, was_there, new_pair, new_proper, turned, struck}
+use Rattle.search.proofs.Sowing.{Sown, met_first, sown_all, sown}
 use Rattle.search.proofs.walk.Walk.seed.Goals as goal
 
 pub loop-part-init : goal.loop-part-init
@@ -47,44 +47,28 @@ loop-b-init c =
 
 pub meet-requires : goal.meet-requires
 meet-requires c =
-    let v = c.args.self.now in
     let i = c.loop-b.invariant in
     let w = c.in-Some.ensures.steps in
-    let a = c.in-Some.a in
-    let ia = c.loop-a.invariant.3 a w.was in record {
-      proper = sown_proper v.parts.now v.book.now (waiting c.loop-b.self.queue) c.loop-b.self.trail.trace i.1 c.loop-b.self.trail.size c.loop-part.part c.next.new.self.rest a w.low ia
-          c.loop-b.b-iterator.rest c.next-in-loop-b.new.self.rest c.in-Some-b.b i.3 c.in-Some-b.ensures.steps c.of-pair.result c.of-pair.ensures;
-      unmet = sown_new v.parts.now v.book.now (waiting c.loop-b.self.queue) c.loop-b.self.trail.trace i.1 c.loop-b.self.trail.size c.loop-part.part c.next.new.self.rest a w.low ia
-          c.loop-b.b-iterator.rest c.next-in-loop-b.new.self.rest c.in-Some-b.b i.3 c.in-Some-b.ensures.steps c.of-pair.result c.of-pair.ensures;
-    }
+    let t = sown i.1 c.loop-b.self.trail.size c.loop-part.part w.low (c.loop-a.invariant.3 c.in-Some.a w.was) i.3 c.in-Some-b.ensures.steps c.of-pair.ensures in
+    record { proper = new_proper t; unmet = new_pair t }
 
 pub returns-in-Some-meet : goal.returns-in-Some-meet
 returns-in-Some-meet c =
-    let v = c.args.self.now in
     let i = c.loop-b.invariant in
     let w = c.in-Some.ensures.steps in
-    let a = c.in-Some.a in
-    let ia = c.loop-a.invariant.3 a w.was in
     let m = c.meet.ensures in
-    let x = subst (λ (y : Book). Excludes y c.in-Some-meet.row c.of-pair.result) i.0.1 c.in-Some-meet.ensures.row in record {
-      same = (m.same.0 ∙ i.0.0, m.same.1 ∙ i.0.1);
-      seeded = sown_struck v.parts.now v.book.now (waiting c.loop-b.self.queue) c.loop-b.self.trail.trace i.1 c.loop-b.self.trail.size c.loop-part.part c.next.new.self.rest a w.low ia
-          c.loop-b.b-iterator.rest c.next-in-loop-b.new.self.rest c.in-Some-b.b i.3 c.in-Some-b.ensures.steps c.of-pair.result c.of-pair.ensures
-          c.meet.new.self.trail.trace m.marked c.in-Some-meet.row x;
-    }
+    let x = subst (λ (y : Book). Excludes y c.in-Some-meet.row c.of-pair.result) i.0.1 c.in-Some-meet.ensures.row in
+    let t = sown i.1 c.loop-b.self.trail.size c.loop-part.part w.low (c.loop-a.invariant.3 c.in-Some.a w.was) i.3 c.in-Some-b.ensures.steps c.of-pair.ensures in
+    record { same = (m.same.0 ∙ i.0.0, m.same.1 ∙ i.0.1); seeded = struck t m.marked c.in-Some-meet.row x (λ _ _ _ _. omega arith) }
 
 pub loop-b-preserved : goal.loop-b-preserved
 loop-b-preserved c =
-    let v = c.args.self.now in
     let i = c.loop-b.invariant in
     let w = c.in-Some.ensures.steps in
-    let a = c.in-Some.a in
-    let ia = c.loop-a.invariant.3 a w.was in
     let m = c.meet.ensures in
     let x = subst (λ (y : Book). (j : ℕ) → Excludes y j c.of-pair.result → ⊥) i.0.1 c.in_default.ensures.row in
-    let n = sown_turned v.parts.now v.book.now (waiting c.loop-b.self.queue) c.loop-b.self.trail.trace i.1 c.loop-b.self.trail.size c.loop-part.part c.next.new.self.rest a w.low ia
-    c.loop-b.b-iterator.rest c.next-in-loop-b.new.self.rest c.in-Some-b.b i.3 c.in-Some-b.ensures.steps c.of-pair.result c.of-pair.ensures
-    c.meet.new.self.trail.trace m.marked (waiting c.meet.new.self.queue) m.line x i.2 in
+    let t = sown i.1 c.loop-b.self.trail.size c.loop-part.part w.low (c.loop-a.invariant.3 c.in-Some.a w.was) i.3 c.in-Some-b.ensures.steps c.of-pair.ensures in
+    let n = turned t m.marked (Sown c.args.self.now.parts.now) c.loop-part.part c.next.new.self.rest m.line x i.2 in
     ((m.same.0 ∙ i.0.0, m.same.1 ∙ i.0.1), n.met, n.done, n.fresh)
 
 pub loop-a-preserved : goal.loop-a-preserved
