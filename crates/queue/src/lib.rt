@@ -8,7 +8,7 @@ ghost use Rattle.terms.specs.Refusals.{ask, asked, numbered};
 use terms::refusal::Refusal;
 
 // The entries wait from the head on, and on from the first place after the last.
-// The memory is the caller's, of any length and with no heap, so the line is a lent slice and no VecDeque.
+// The memory is the caller's, of any length and with no heap (docs/DECISIONS.md), so the line is a lent slice and no VecDeque.
 #[derive(Drop)]
 pub struct Queue<'a, T: Copy> {
     slots: &'a mut [T],

@@ -21,7 +21,8 @@ pub struct ClassPair {
     pub right: u8,
 }
 
-// A part, an exclusion row and the number of letters between them, which stand in memory that the caller lends.
+// A part, an exclusion row and the number of letters between them, which stand in memory that the caller lends, as a form that
+// the project keeps (docs/DECISIONS.md).
 #[derive(Clone, Copy, PartialEq, Eq, Debug)]
 pub struct Found {
     pub part: u8,
