@@ -1,13 +1,9 @@
 -- Unions of the sets of a table.
-use Rattle.std.proofs.Common.{◌≡◌, ℕ, true, List, sym, ◌∙◌, subst, inl, inr}
-use Rattle.std.proofs.lemmas.Bool.{false≢true}
+use Rattle.std.proofs.Common.{◌≡◌, true, List, subst, inl, inr}
 use Rattle.classes.specs.declared.ClassSet.{ClassSet}
 use Rattle.classes.specs.Sets.{has, none}
-use Rattle.classes.proofs.Members.{has_none}
+use Rattle.classes.proofs.Members.{not_in_none}
 use Rattle.book.specs.Sealing.{Gathering, Gathered}
-
-pub not_in_none : {P : Type 0} (B : ℕ) → has none B ≡ true → P
-not_in_none B h = absurd (false≢true (sym (has_none B) ∙ h))
 
 pub gather_none : (table : List ClassSet) (s : ClassSet) → Gathering table s s none
 gather_none table s = record { from = λ B h. not_in_none B h; all = λ k B h _. inl h; part = λ k h. h }

@@ -1,9 +1,10 @@
 -- The classes and features of lawful rows, and of the rules that they say.
-use Rattle.std.proofs.Common.{◌≡◌, ℕ, zero, suc, ◌+◌, ◌<◌, ◌≤◌, Bool, true, cond, ◌&&◌, eqb, ltb, leb, ◌⊎◌, List, [], ◌∷◌, length, get_or, Ok, sym, refl, ap, ◌∙◌, subst, inl, inr, arith}
+use Rattle.std.proofs.Common.{◌≡◌, ℕ, zero, suc, ◌+◌, ◌<◌, ◌≤◌, Bool, true, cond, ◌&&◌, eqb, ltb, leb, ◌⊎◌, List, [], ◌∷◌, length, get_or, Ok, Result, sym, refl, ap, ◌∙◌, subst, inl, inr, arith}
 use mathlib.Core.List.Memᴰ
 use Rattle.std.proofs.lemmas.Bool.{and_parts, ltb-true, eqb-true, leb-true, or_cases, not-true, ltb-false, cases_eq}
 use Rattle.std.proofs.lemmas.Bool.Decides.{nat_tests}
 use Rattle.terms.specs.declared.row.Row.{Row}
+use Rattle.terms.specs.declared.refusal.Refusal.{Refusal}
 use Rattle.terms.specs.declared.kind.RowKind.{RowKind}
 use Rattle.terms.specs.declared.kind.RowKind.TheVariants.{Subclass, Exclusion, Value, Pullback, Key}
 use Rattle.terms.specs.Kinds.{row_kind, row_number}
@@ -65,12 +66,16 @@ rule_5 : (r : Row) → r.kind ≡ 5 → rule_of r ≡ key r.left r.right (featur
 rule_5 r e = rw e
 
 -- the number of a kind
-pub kind_number : (n : ℕ) (k : RowKind) → row_kind n ≡ Ok k → n ≡ row_number k
+kind_number : (n : ℕ) (k : RowKind) → row_kind n ≡ Ok k → n ≡ row_number k
 kind_number n Subclass e = grind (arith, nat_tests)
 kind_number n Exclusion e = grind (arith, nat_tests)
 kind_number n Value e = grind (arith, nat_tests)
 kind_number n Pullback e = grind (arith, nat_tests)
 kind_number n Key e = grind (arith, nat_tests)
+
+-- what trying a row's kind says of its number
+pub kind_is : (r : Row) {found : Result RowKind Refusal} {k m : RowKind} → found ≡ row_kind r.kind → found ≡ Ok k → k ≡ m → r.kind ≡ row_number m
+kind_is r {k = k} f o e = kind_number r.kind k (sym f ∙ o) ∙ ap row_number e
 
 -- any other kind says nothing of classes alone
 pub record Silent (y : Rule) : Type 0 where
@@ -135,7 +140,7 @@ kind_in r g =
     ]
 
 -- the rule of a lawful row is within the limits
-row_legal : (r : Row) → lawful r ≡ true → RuleLegal (rule_of r)
+pub row_legal : (r : Row) → lawful r ≡ true → RuleLegal (rule_of r)
 row_legal r g = let t = kind_in r g in by t.0 t.1
   where
     p : (r.left < 64) × (r.right < 64)

@@ -1,25 +1,30 @@
 -- Links: one row more.
-use Rattle.std.proofs.Common.{◌≡◌, ◌≢◌, ℕ, zero, suc, ◌<◌, ◌&&◌, ◌||◌, eqb, ltb, ◌⊎◌, ◌↔◌, List, [], ◌∷◌, ◌++◌, length, get_or, set, replicate, sym, refl, ap, ◌∙◌, subst, inl, inr, arith}
+use Rattle.std.proofs.Common.{◌≡◌, ◌≢◌, ℕ, zero, suc, ◌<◌, true, ◌&&◌, ◌||◌, eqb, ltb, ◌⊎◌, ◌↔◌, List, [], ◌∷◌, ◌++◌, length, get_or, set, replicate, sym, refl, ap, ◌∙◌, subst, inl, inr, arith}
 use mathlib.Core.List.Memᴰ
 use Rattle.std.proofs.lemmas.List.{get_or-set_same, get_or-set_other, get_or-replicate, length-set}
 use Rattle.std.proofs.lemmas.Bool.{and_parts, and_from, lt-ltb, eqb-true, eq-eqb, or_cases, or_left, or_right, cases_eq}
 use Rattle.classes.specs.declared.ClassSet.{ClassSet}
 use Rattle.classes.specs.Sets.{has, none}
+use Rattle.classes.proofs.Members.{not_in_none}
 use Rattle.terms.specs.Worlds.{◌∈◌, Rule, subclass, value, pullback}
+use Rattle.theory.specs.Legal.{RuleLegal, RulesLegal}
 use Rattle.book.specs.Tables.{set_at, At}
 use Rattle.book.specs.Sealing.{links_by, DirectBy, Direct}
 use Rattle.book.specs.declared.links.FeatureLinks.{FeatureLinks}
 use Rattle.book.specs.declared.links.Links.{Links}
-use Rattle.book.proofs.Gathering.{not_in_none}
 use Rattle.book.proofs.Legal.{Silent}
 
+-- a table of empty sets, at any place
+pub none_at : (n i : ℕ) → set_at (replicate n none) i ≡ none
+none_at zero i = refl
+none_at (suc n) zero = refl
+none_at (suc n) (suc i) = none_at n i
+
 pub at_none : (n i B : ℕ) → At (replicate n none) i B → ⊥
-at_none n i B h = not_in_none B (ap (λ (s : ClassSet). has s B) (sym (nothing n i)) ∙ h)
-  where
-    nothing : (n i : ℕ) → get_or (replicate n none) i none ≡ none
-    nothing zero i = refl
-    nothing (suc n) zero = refl
-    nothing (suc n) (suc i) = nothing n i
+at_none n i B h = not_in_none B (subst (λ (s : ClassSet). has s B ≡ true) (none_at n i) h)
+
+pub none_legal : RulesLegal []
+none_legal r m = absurd (Memᴰ.not-nil m)
 
 -- the links of no rule
 pub by_blank : (f : ℕ) → f < 16
@@ -29,6 +34,7 @@ by_blank f h = rw (get_or-replicate {A = FeatureLinks} 16 f (record { ahead = re
   behind_is = λ A B _. ((λ x. absurd (at_none 64 A B x)), (λ m. absurd (Memᴰ.not-nil m)));
   long_ahead = refl;
   long_behind = refl;
+  legal = none_legal;
 })
 
 -- one class more in the set at a place
@@ -78,20 +84,25 @@ through a b c = (
   (λ q. a.1 (elim (c.0 q) [ inl x ↦ inl (b.1 x) | inr e ↦ inr e ])),
 )
 
-direct_push : (R : List Rule) (y : Rule) (l l' : Links) → Adds y l l' → Direct R l → Direct (R ++ y ∷ []) l'
-direct_push R y l l' a d = record {
+direct_push : (R : List Rule) (y : Rule) (l l' : Links) → RuleLegal y → Adds y l l' → Direct R l → Direct (R ++ y ∷ []) l'
+direct_push R y l l' g a d = record {
   above_is = λ A B h. through (a.above A B h) (d.above_is A B h) (more R (subclass A B) y);
   by_is = λ f k. let x = a.by f k in let b = d.by_is f k in record {
     ahead_is = λ A B h. through (x.ahead A B h) (b.ahead_is A B h) (more R (value A f B) y);
     behind_is = λ A B h. through (x.behind A B h) (b.behind_is A B h) (more R (pullback f A B) y);
     long_ahead = x.long_ahead ∙ b.long_ahead;
     long_behind = x.long_behind ∙ b.long_behind;
+    legal = legal;
   };
   into_has = λ A f B m. a.into A f B (elim ((more R (value A f B) y).0 m) [ inl x ↦ inl (d.into_has A f B x) | inr e ↦ inr e ]);
+  legal = legal;
 }
+  where
+    legal : RulesLegal (R ++ y ∷ [])
+    legal r m = elim ((more R r y).0 m) [ inl x ↦ d.legal r x | inr e ↦ subst RuleLegal (sym e) g ]
 
-pub push_as : (R : List Rule) (y z : Rule) (l l' : Links) → z ≡ y → Adds y l l' → Direct R l → Direct (R ++ z ∷ []) l'
-push_as R y z l l' e a d = subst (λ (x : Rule). Direct (R ++ x ∷ []) l') (sym e) (direct_push R y l l' a d)
+pub push_as : (R : List Rule) (y z : Rule) (l l' : Links) → z ≡ y → RuleLegal z → Adds y l l' → Direct R l → Direct (R ++ z ∷ []) l'
+push_as R y z l l' e g a d = subst (λ (x : Rule). Direct (R ++ x ∷ []) l') (sym e) (direct_push R y l l' (subst RuleLegal e g) a d)
 
 -- a table that stays as it is
 kept : {P E : Type 0} → (E → ⊥) → P ↔ (P ⊎ E)

@@ -6,7 +6,6 @@ use Rattle.classes.specs.Sets.{has}
 use Rattle.terms.specs.Worlds.{◌∈◌, Rule, value}
 use Rattle.terms.specs.Steps.{Within, itself, pulled, by_value, widened}
 use Rattle.book.specs.Tables.{set_at, At}
-use Rattle.theory.specs.Legal.{RulesLegal}
 use Rattle.book.specs.Sealing.{DirectBy, Entered, Gathered, Placed, Ordered, Sound, Served, Step}
 use Rattle.book.specs.declared.links.FeatureLinks.{FeatureLinks}
 
@@ -33,8 +32,8 @@ module _ (by : FeatureLinks) (into w v : List ClassSet) (a : ℕ) (low : a < 64)
     keeps = λ A g h s D B C m e q. p.grew A C (s D B C m (subst (λ (t : ClassSet). has t B ≡ true) (still A g D h m) e) q);
   }
 
-  pub pull_served : RulesLegal R → Ordered w → has again a ≡ false → Served R v a f
-  pull_served lo o h D B C m e q =
+  pub pull_served : Ordered w → has again a ≡ false → Served R v a f
+  pull_served o h D B C m e q =
       let e' : At w D B = subst (λ (t : ClassSet). has t B ≡ true) (still a f D h m) e in
       let in-led : has led B ≡ true = l.all D B ((d.ahead_is a D low).1 m) e' in
-      p.there o C (b.all B C in-led ((d.behind_is B C (lo _ q).1).1 q))
+      p.there o C (b.all B C in-led ((d.behind_is B C (d.legal _ q).1).1 q))

@@ -1,16 +1,12 @@
 -- What rule answers, and its law.
-use Rattle.std.proofs.Common.{◌≡◌, ℕ, true, List, [], ◌∷◌, ◌++◌, length, Ok, Err, Result, sym, refl, ap}
+use Rattle.std.proofs.Common.{◌≡◌, ℕ, true, List, [], ◌∷◌, ◌++◌, length, Ok, Result, sym, refl, ap}
 use Rattle.std.proofs.lemmas.Bool.{and_from, and_parts, lt-ltb, ltb-true}
 use Rattle.terms.specs.declared.row.Row.{Row}
 use Rattle.terms.specs.declared.refusal.Refusal.{Refusal}
 use Rattle.terms.specs.Refusals.{asked, AllYes, numbered}
 use Rattle.terms.specs.Rows.{row_questions, lawful, all_lawful, kind_known, classes_low, features_low}
-use Rattle.terms.proofs.Asking.{answers}
+use Rattle.terms.proofs.Asking.{answers, numbered_ok}
 use Rattle.book.specs.Drafts.{rule_questions, RuleLaw}
-
-numbered_ok : (r : Result ℕ Refusal) (n : ℕ) → numbered r ≡ Ok n → r ≡ Ok n
-numbered_ok (Ok x) n e = cc
-numbered_ok (Err f) n e = cc
 
 pub lawful_yes : (row : Row) → lawful row ≡ true → AllYes (row_questions row)
 lawful_yes row h =

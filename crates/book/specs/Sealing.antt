@@ -4,6 +4,7 @@ use Rattle.classes.specs.declared.ClassSet.{ClassSet}
 use Rattle.classes.specs.Sets.{has, joined, weight}
 use Rattle.terms.specs.Worlds.{◌∈◌, Rule, subclass, value, pullback}
 use Rattle.terms.specs.Steps.{Within}
+use Rattle.theory.specs.Legal.{RulesLegal}
 use Rattle.book.specs.Tables.{set_at, table_at, At}
 use Rattle.book.specs.declared.links.FeatureLinks.{FeatureLinks}
 use Rattle.book.specs.declared.links.Links.{Links}
@@ -12,22 +13,24 @@ use Rattle.book.specs.declared.links.Links.{Links}
 abbrev pub links_by : Links → ℕ → FeatureLinks
 links_by l f = slice_index_or l.by_feature f (record { ahead = []; behind = [] })
 
--- the links by feature f hold exactly what the rules say of classes along it
+-- the links by feature f hold exactly what the rules, which are within the limits, say of classes along it
 pub record DirectBy (R : List Rule) (f : ℕ) (b : FeatureLinks) : Type 0 where
   pub ahead_is : (A B : ℕ) → A < 64 → At b.ahead A B ↔ (value A f B ∈ R)
   pub behind_is : (A B : ℕ) → A < 64 → At b.behind A B ↔ (pullback f A B ∈ R)
   pub long_ahead : length b.ahead ≡ 64
   pub long_behind : length b.behind ≡ 64
+  pub legal : RulesLegal R
 
 -- every class has the classes with a value in it, and may have more
 abbrev pub Entered : List Rule → List ClassSet → Type 0
 Entered R into = (A f B : ℕ) → value A f B ∈ R → At into B A
 
--- the links hold exactly what the rules say of classes directly; `into` may hold more
+-- the links hold exactly what the rules, which are within the limits, say of classes directly; `into` may hold more
 pub record Direct (R : List Rule) (l : Links) : Type 0 where
   pub above_is : (A B : ℕ) → A < 64 → At l.above A B ↔ (subclass A B ∈ R)
   pub by_is : (f : ℕ) → f < 16 → DirectBy R f (links_by l f)
   pub into_has : Entered R l.into
+  pub legal : RulesLegal R
 
 -- r is the union of the sets of the classes k of s
 pub record Gathered (table : List ClassSet) (s r : ClassSet) : Type 0 where

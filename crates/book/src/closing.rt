@@ -22,6 +22,7 @@ fn widen(set: ClassSet, a: u8, more: ClassSet) -> ClassSet
 }
 
 // Each set that has `a` gains `more`; the answer has the classes whose set grew.
+// That the table is heavier is a clause of its own, here and up to the loop that ends by it (`settle`): it holds whatever the table means.
 fn extend(within: &mut [ClassSet; 64], a: u8, more: ClassSet) -> ClassSet
     ensures extended { Extended within.old a more within.new result }
     ensures heavier { Heavier within.old result within.new }

@@ -8,7 +8,8 @@ use arrayvec::ArrayVec;
 use terms::refusal::Refusal;
 use terms::row::Row;
 
-// The rows taken, each lawful.
+// The rows taken, at most 256 and each lawful. A book says the same of its rows: a third type, of lawful rows, inside both
+// would put one level more on each read, and spare two inner functions (`Book::of`, `Links::of`) their `requires`.
 #[derive(Drop)]
 pub struct Draft {
     rows: ArrayVec<Row, 256>,

@@ -14,6 +14,7 @@ use terms::row::Row;
 
 // The rows, at most 256 and each lawful, and the tables of their class steps.
 // The rows are those of a draft, and a book holds no draft: what can be written is not to be reached in what is sealed.
+// Nor do both hold a third type, of lawful rows: draft.rt says why.
 #[derive(Drop)]
 pub struct Book {
     rows: ArrayVec<Row, 256>,

@@ -3,7 +3,6 @@ ghost use Rattle.std.specs.Prelude.{◌≡◌, ℕ, ◌<◌, true, false, ◌↔
 ghost use Rattle.classes.specs.Sets.{has, none};
 ghost use Rattle.terms.specs.Worlds.{Rule};
 ghost use Rattle.book.specs.Tables.{set_at, At, Steps};
-ghost use Rattle.theory.specs.Legal.{RulesLegal};
 ghost use Rattle.book.specs.Sealing.{Direct, DirectBy, Entered, Heavier, Ordered, Sound, Served, Step, Ready, Open, Led, EachLed, AllLed};
 
 use crate::closing::{gather, place};
@@ -20,7 +19,7 @@ pub struct StepTables {
 impl StepTables {
     // The class steps of the rules that the links say.
     pub(crate) fn of(links: &Links) -> StepTables
-        ensures { (R : List Rule) → Direct R links.now → RulesLegal R → Steps R result.within result.leads }
+        ensures { (R : List Rule) → Direct R links.now → Steps R result.within result.leads }
     {
         let mut within = reflexive();
         links.climb(&mut within);
@@ -46,7 +45,7 @@ impl FeatureLinks {
     fn pull(&self, within: &mut [ClassSet; 64], into: &[ClassSet; 64], a: u8) -> ClassSet
         requires { a < 64 }
         ensures step { (R : List Rule) (f : ℕ) → DirectBy R f self.now → Entered R into.now → Step R within.old result within.new }
-        ensures served { (R : List Rule) (f : ℕ) → DirectBy R f self.now → Entered R into.now → RulesLegal R → Ordered within.old → has result a ≡ false → Served R within.new a f }
+        ensures served { (R : List Rule) (f : ℕ) → DirectBy R f self.now → Entered R into.now → Ordered within.old → has result a ≡ false → Served R within.new a f }
         ensures heavier { Heavier within.old result within.new }
     {
         let led = gather(within, self.ahead[usize::from(a)]);
@@ -76,7 +75,7 @@ impl FeatureLinks {
 impl Links {
     // Adds what the rows of kind 1 say.
     fn climb(&self, within: &mut [ClassSet; 64])
-        ensures { (R : List Rule) → Direct R self.now → RulesLegal R → Sound R within.old → Ordered within.old → Ready R within.new }
+        ensures { (R : List Rule) → Direct R self.now → Sound R within.old → Ordered within.old → Ready R within.new }
     {
         for (class, above) in self.above.iter().enumerate() {
             let _ = place(within, class as u8, *above);
@@ -87,7 +86,7 @@ impl Links {
     fn visit(&self, within: &mut [ClassSet; 64], a: u8) -> ClassSet
         requires { a < 64 }
         ensures step { (R : List Rule) → Direct R self.now → Step R within.old result within.new }
-        ensures served { (R : List Rule) → Direct R self.now → RulesLegal R → Ordered within.old → has result a ≡ false → (f : ℕ) → f < 16 → Served R within.new a f }
+        ensures served { (R : List Rule) → Direct R self.now → Ordered within.old → has result a ≡ false → (f : ℕ) → f < 16 → Served R within.new a f }
         ensures heavier { Heavier within.old result within.new }
     {
         let mut again = ClassSet::NONE;
@@ -99,7 +98,7 @@ impl Links {
 
     // Adds all that the rows of kind 4 pull back; a class waits until it has been looked at since the sets it needs grew.
     fn settle(&self, within: &mut [ClassSet; 64])
-        ensures { (R : List Rule) → Direct R self.now → RulesLegal R → Ready R within.old → Open R within.new none }
+        ensures { (R : List Rule) → Direct R self.now → Ready R within.old → Open R within.new none }
     {
         let mut waiting = ClassSet::ALL;
         while let Some(a) = waiting.take_lowest() {

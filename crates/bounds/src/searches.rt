@@ -77,15 +77,19 @@ fn work_areas(rt: HostRuntime) {
     );
 }
 
-// Cycles of 31 and 33 classes over one feature, whose last classes exclude each other.
+// Each class from the first on leads to the next over one feature, and the last to the first.
+fn add_cycle(draft: &mut Draft, first: u8, last: u8) {
+    for c in first..last {
+        let _ = draft.rule(value(c, 0, c + 1));
+    }
+    let _ = draft.rule(value(last, 0, first));
+}
+
+// Cycles of 31 and 33 classes, whose last classes exclude each other.
 fn two_cycles() -> Book {
     let mut draft = Draft::new();
-    for c in 0..31u8 {
-        let _ = draft.rule(value(c, 0, if c < 30 { c + 1 } else { 0 }));
-    }
-    for c in 31..64u8 {
-        let _ = draft.rule(value(c, 0, if c < 63 { c + 1 } else { 31 }));
-    }
+    add_cycle(&mut draft, 0, 30);
+    add_cycle(&mut draft, 31, 63);
     let _ = draft.rule(exclusion(30, 63));
     draft.seal()
 }

@@ -10,6 +10,9 @@ pub has_none : (k : ℕ) → has none k ≡ false
 unfolding has
 has_none = bit_zero
 
+pub not_in_none : {X : Type 0} (k : ℕ) → has none k ≡ true → X
+not_in_none k h = absurd (both_ways (has none k) (has_none k) h)
+
 pub has_all : (k : ℕ) → k < 64 → has all k ≡ true
 unfolding has
 has_all k h = bit_ones 64 k h

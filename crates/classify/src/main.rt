@@ -19,7 +19,7 @@ fn main(rt: HostRuntime) -> anyhow::Result<ExitCode> {
             Ok(ExitCode::SUCCESS)
         }
         Err(fault) => {
-            rt.print(refusal_line(heap, fault.refusal, fault.index)?)?;
+            rt.print(refusal_line(heap, fault)?)?;
             Ok(ExitCode::FAILURE)
         }
     }

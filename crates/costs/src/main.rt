@@ -13,15 +13,14 @@ use stores::row::RowStore;
 use stores::store::Store;
 use terms::fact::Fact;
 
-// One reading of the records: how many there are. What is refused is not told, here and below, only that it is.
+// One reading of the records: how many there are.
 fn read_once(input: &[u8]) -> anyhow::Result<usize> {
-    let group = read_rules(input).ok();
-    Ok(group.context("a record is refused")?.records)
+    Ok(read_rules(input).context("a record is refused")?.records)
 }
 
 fn sealed(input: &[u8]) -> anyhow::Result<Book> {
-    let draft = read_draft(input).ok();
-    Ok(draft.context("a record is refused")?.seal())
+    let draft = read_draft(input).context("a record is refused")?;
+    Ok(draft.seal())
 }
 
 // One reading and sealing: is class 0 the value by feature 0 of an object in it?
@@ -34,8 +33,8 @@ fn ask_once(input: &[u8]) -> anyhow::Result<usize> {
     let book = sealed(input)?;
     let mut pairs = [ClassPair::default(); 4096];
     let mut parts = [0; 256];
-    let answer = possible(&book, 0, &mut pairs, &mut parts).ok();
-    Ok(usize::from(answer.context("the question is refused")?))
+    let answer = possible(&book, 0, &mut pairs, &mut parts).context("the question is refused")?;
+    Ok(usize::from(answer))
 }
 
 // The facts of the records, told one by one to a row store over a table of 5,000 rows: how many it lists.

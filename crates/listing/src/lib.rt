@@ -10,7 +10,6 @@ use classes::ClassSet;
 use records::Fault;
 use std::alloc::{AllocError, Global};
 use std::fmt;
-use terms::refusal::Refusal;
 
 // The number of rows of a book, the class steps of each class, and the classes that are impossible.
 pub fn book_lines(heap: Global, book: &Book, impossible: ClassSet) -> Result<String, AllocError>
@@ -19,11 +18,11 @@ pub fn book_lines(heap: Global, book: &Book, impossible: ClassSet) -> Result<Str
     format!(in heap; "{}", BookLines { book, impossible })
 }
 
-// The line that says why a record is refused; by its two parts, so that a caller may bring the fault of any layer.
-pub fn refusal_line(heap: Global, refusal: Refusal, index: usize) -> Result<String, AllocError>
-    ensures { IfOk result (λ s. string_bytes s ≡ refusal_line refusal index) }
+// The line that says which record is refused, and why.
+pub fn refusal_line(heap: Global, fault: Fault) -> Result<String, AllocError>
+    ensures { IfOk result (λ s. string_bytes s ≡ refusal_line fault.refusal fault.index) }
 {
-    format!(in heap; "{}\n", Fault { refusal, index })
+    format!(in heap; "{fault}\n")
 }
 
 // The lines of a book, and of the classes that no world can have an object in.
@@ -133,10 +132,15 @@ impl fmt::Display for Numbers {
 mod tests {
     use super::*;
     use std::test::Fail;
+    use terms::refusal::Refusal;
 
     #[test]
     fn says_why(rt: HostRuntime) -> Result<(), Fail> {
-        let line = refusal_line(rt.alloc(), Refusal::ClassTooHigh, 3)?;
+        let fault = Fault {
+            refusal: Refusal::ClassTooHigh,
+            index: 3,
+        };
+        let line = refusal_line(rt.alloc(), fault)?;
         assert!(rt; line.as_bytes() == b"record 3: a class is not below 64\n".as_slice());
         Ok(())
     }

@@ -19,7 +19,7 @@ use Rattle.book.specs.Tables.{set_at, At, Steps}
 use Rattle.book.proofs.Legal.{rules_legal}
 use Rattle.book.proofs.Reading.{legal_rules, decided}
 use Rattle.search.specs.Graph.{Lead, Way, stay, go, Reaches}
-use Rattle.book.proofs.Gathering.{not_in_none}
+use Rattle.classes.proofs.Members.{not_in_none}
 use Rattle.possible.specs.Questions.{Lone}
 
 module _ (b : Book) where

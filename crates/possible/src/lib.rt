@@ -24,6 +24,8 @@ fn lone_part(classes: ClassSet) -> [ClassSet; 256]
 }
 
 // Says whether some world keeps all rules of the book and has an object in the class.
+// Each work area is lent by itself, as all memory here (a form that the project keeps: docs/DECISIONS.md); a struct of both
+// would be made and taken apart at each call, and one of the two is only measured.
 pub fn possible(
     book: &Book,
     class: u8,
@@ -63,6 +65,7 @@ impl WorkAreas {
     }
 
     // Says whether no world that keeps all rules has an object in the class.
+    // That it is below 64 is asked: a type of its own would be made from the loop's number, and turned back into one, at this one call.
     fn is_impossible(&mut self, book: &Book, class: u8) -> bool
         requires { class < 64 }
         ensures { (result ≡ true) ↔ (Possible (rules_of (rows_of book.now)) class → ⊥) }

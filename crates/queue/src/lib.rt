@@ -8,7 +8,7 @@ ghost use Rattle.terms.specs.Refusals.{ask, asked, numbered};
 use terms::refusal::Refusal;
 
 // The entries wait from the head on, and on from the first place after the last.
-// The memory is the caller's, of any length and with no heap, so the line is a lent slice and no VecDeque.
+// The memory is the caller's, of any length and with no heap (docs/DECISIONS.md), so the line is a lent slice and no VecDeque.
 #[derive(Drop)]
 pub struct Queue<'a, T: Copy> {
     slots: &'a mut [T],
@@ -18,7 +18,8 @@ pub struct Queue<'a, T: Copy> {
     pub ghost fits: { len ≤ length slots.now },
 }
 
-// Writes the entry into its place. The row store has its own: one for both would be a public call with a `requires`.
+// Writes the entry into its place. A function that takes the whole memory does the writing: a form that the project keeps, docs/DECISIONS.md.
+// The row store has its own: one for both would be a public call with a `requires`.
 fn put<T: Copy>(slots: &mut [T], at: usize, entry: T)
     requires inside { at < length slots.old }
     ensures written { slots.new ≡ slice_set slots.old at entry }
@@ -89,7 +90,7 @@ impl<'a, T: Copy> Queue<'a, T> {
         Some(entry)
     }
 
-    // How many entries wait; the question takes the line for writing and changes nothing.
+    // How many entries wait; the question takes the line for writing, which is a form that the project keeps (docs/DECISIONS.md), and changes nothing.
     pub fn len(&mut self) -> usize
         ensures answer { result ≡ length (waiting self.old) }
         ensures unchanged { self.new ≡ self.old }
@@ -97,7 +98,7 @@ impl<'a, T: Copy> Queue<'a, T> {
         return self.len;
     }
 
-    // Whether no entry waits; it changes nothing either.
+    // Whether no entry waits; it takes the line as `len` does, and changes nothing either.
     pub fn is_empty(&mut self) -> bool
         ensures answer { result ≡ (length (waiting self.old) == 0) }
         ensures unchanged { self.new ≡ self.old }

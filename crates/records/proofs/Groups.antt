@@ -1,10 +1,10 @@
 -- One record of a group, and the end of the file.
-use Rattle.std.proofs.Common.{◌≡◌, ℕ, zero, suc, ◌≤◌, Bool, true, false, cond, ◌&&◌, eqb, leb, List, [], ◌∷◌, ◌++◌, length, get_or, drop, Ok, Err, Result, refl, ap, ◌∙◌, arith}
+use Rattle.std.proofs.Common.{◌≡◌, ℕ, zero, suc, ◌≤◌, Bool, true, false, cond, ◌&&◌, eqb, leb, List, [], ◌∷◌, ◌++◌, length, get_or, drop, Ok, Err, Result, refl, ap, ◌∙◌}
 use Rattle.std.proofs.lemmas.Bool.{and_parts, leb-true}
 use Rattle.terms.specs.declared.row.Row.{Row}
 use Rattle.terms.specs.declared.refusal.Refusal.{Refusal}
-use Rattle.terms.specs.Refusals.{Question, asked, numbered}
-use Rattle.terms.proofs.Asking.{answers, asked_on, asked_no}
+use Rattle.terms.specs.Refusals.{asked, numbered}
+use Rattle.terms.proofs.Asking.{answers, asked_on, asked_no, own_value}
 use Rattle.book.specs.Drafts.{grown}
 use Rattle.records.specs.Records.{Refused, rule_marked, row_in, record_questions, at_record, onward, rule_group}
 
@@ -14,26 +14,17 @@ marked_two bytes m = leb-true 2 (length bytes) (and_parts (leb 2 (length bytes))
 
 -- what stood under the record's number
 refusal_there : {A : Type 0} (r : Result A ℕ) (k : ℕ) (f : Refused) → Err f ≡ at_record k r → (n : ℕ) × (r ≡ Err n) × (f ≡ record { number_of = n; index = k })
-refusal_there (Ok x) k f e = let z : ◌≡◌ {A = ℕ} 0 1 = cc in absurd (omega arith)
+refusal_there (Ok x) k f e = cc
 refusal_there (Err n) k f e = (n, refl, cc)
 
 value_there : {A : Type 0} (r : Result A ℕ) (k : ℕ) (v : A) → Ok v ≡ at_record k r → r ≡ Ok v
 value_there (Ok x) k v e = cc
-value_there (Err n) k v e = let z : ◌≡◌ {A = ℕ} 0 1 = cc in absurd (omega arith)
-
--- a call that is done answers the value that its questions lead to
-own_value : {A : Type 0} (qs : List Question) (x v : A) → asked qs x ≡ Ok v → asked qs x ≡ Ok x
-own_value [] x v e = refl
-own_value {A = A} (q ∷ qs) x v e = by q.holds (asked qs x) (own_value qs x v) e
-  where
-    by : (b : Bool) (r : Result A ℕ) → (r ≡ Ok v → r ≡ Ok x) → cond b r (Err q.number_of) ≡ Ok v → cond b r (Err q.number_of) ≡ Ok x
-    by true r h e = h e
-    by false r h e = let z : ◌≡◌ {A = ℕ} 0 1 = cc in absurd (omega arith)
+value_there (Err n) k v e = cc
 
 -- the rows after a row that was taken
 pub grown_there : (rows : List Row) (row : Row) (r : Result ℕ Refusal) (k v : ℕ) → Ok v ≡ at_record k (numbered r) → grown r rows row ≡ rows ++ row ∷ []
 grown_there rows row (Ok x) k v e = refl
-grown_there rows row (Err f) k v e = let z : ◌≡◌ {A = ℕ} 0 1 = cc in absurd (omega arith)
+grown_there rows row (Err f) k v e = cc
 
 module _ (rows : List Row) (bytes : List ℕ) where
   -- no record stands there

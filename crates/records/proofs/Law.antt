@@ -151,7 +151,7 @@ module _ (bytes : List ℕ) (n k : ℕ) (short : length bytes < 32768) (f : Firs
 -- a result is one thing only
 module _ (r : Result (List Row) Refused) where
   never_both : (rows : List Row) (e : Refused) → r ≡ Ok rows → r ≡ Err e → ⊥
-  never_both rows e p q = let z : ◌≡◌ {A = ℕ} 0 1 = cc in omega arith
+  never_both rows e p q = cc
 
   same_rows : (a b : List Row) → r ≡ Ok a → r ≡ Ok b → a ≡ b
   same_rows a b p q = cc

@@ -26,6 +26,7 @@ fn rule_marked(bytes: &[u8]) -> bool
 }
 
 // The row of the rule record at the front of the bytes, if the record is whole.
+// A function and no `TryFrom` of `Row`: the layout of records is this crate's, and the type is not.
 fn rule_record(bytes: &[u8]) -> Result<Row, Refusal>
     ensures { numbered result ≡ asked (ask 12 (nat_le 10 (length bytes.now)) ∷ []) (row_in bytes.now) }
 {
@@ -74,6 +75,7 @@ pub fn read_rules(bytes: &[u8]) -> Result<RuleGroup, Fault>
 }
 
 // After the last group nothing may be left.
+// Where the last group ends and how many records went before it stand apart: they are over all groups, and a `RuleGroup` is one of them.
 pub fn finish(bytes: &[u8], at: usize, index: usize) -> Result<(), Fault>
     ensures { numbered_fault result ≡ at_record index (asked (end_questions (drop at bytes.now)) tt) }
 {

@@ -75,7 +75,7 @@ module _ (P : List ClassSet) (b : Book) (T : List (Option Trace)) (last : ClassP
       let y = stepped q fit (omega arith) in
       let h : t ≡ record { depth = y.depth; origin = Step y.from y.letter } = cc in
       let g : Step y.from y.letter ≡ Part p = sym (ap (λ (z : Trace). z.origin) h) ∙ o in
-      let z : ◌≡◌ {A = ℕ} 0 1 = cc in omega arith
+      cc
 
   -- the first pair of the way
   source : (q : ClassPair) → Proper q → mark_of T q ≡ 1 → Source P T q
@@ -89,7 +89,7 @@ module _ (P : List ClassSet) (b : Book) (T : List (Option Trace)) (last : ClassP
       let y = source q fit m in
       let h : t ≡ record { depth = 0; origin = Part y.part } = cc in
       let g : Part y.part ≡ Step from letter = sym (ap (λ (z : Trace). z.origin) h) ∙ o in
-      let z : ◌≡◌ {A = ℕ} 0 1 = cc in omega arith
+      cc
 
   pub reached : (q : ClassPair) (w : List ℕ) (e : Trace) (p : ℕ) → Proper q → mark_of T q ≡ 1 → entry_of T q ≡ Some e → e.origin ≡ Part p → Tail b q w last → Reaches P b p w row
   reached q w e p fit m i o t =

@@ -23,7 +23,7 @@ rule_at (r ∷ rows) zero h = refl
 rule_at (r ∷ rows) (suc i) h = rule_at rows i (omega arith)
 
 rule_some : (rows : List Row) (i : ℕ) (x : Rule) → get_elem? (rules_of rows) i ≡ some x → i < length rows
-rule_some [] i x e = absurd (let z : ◌≡◌ {A = ℕ} 0 1 = cc in omega arith)
+rule_some [] i x e = cc
 rule_some (r ∷ rows) zero x e = omega arith
 rule_some (r ∷ rows) (suc i) x e = let h = rule_some rows i x e in omega arith
 
@@ -34,11 +34,11 @@ kind_2 r A B e = by (eqb r.kind 1) (eqb r.kind 2) (eqb r.kind 3) (eqb r.kind 4) 
     by : (s t u v : Bool) → (t ≡ true → r.kind ≡ 2)
         → cond s (subclass r.left r.right) (cond t (disjoint r.left r.right) (cond u (value r.left (get_or r.features 0 0) r.right) (cond v (pullback (get_or r.features 0 0) r.left r.right) (key r.left r.right (features_from r 0 r.count))))) ≡ disjoint A B
         → (r.kind ≡ 2) × (r.left ≡ A) × (r.right ≡ B)
-    by true t u v k e = absurd (let z : ◌≡◌ {A = ℕ} 0 1 = cc in omega arith)
+    by true t u v k e = cc
     by false true u v k e = (k refl, cc, cc)
-    by false false true v k e = absurd (let z : ◌≡◌ {A = ℕ} 0 1 = cc in omega arith)
-    by false false false true k e = absurd (let z : ◌≡◌ {A = ℕ} 0 1 = cc in omega arith)
-    by false false false false k e = absurd (let z : ◌≡◌ {A = ℕ} 0 1 = cc in omega arith)
+    by false false true v k e = cc
+    by false false false true k e = cc
+    by false false false false k e = cc
 
 -- what the rows R of the book say of the pair q at place i
 module _ (b : Book) (R : List Row) (same : R ≡ rows_of b) (i : ℕ) (q : ClassPair) where

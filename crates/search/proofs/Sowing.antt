@@ -1,22 +1,20 @@
 -- Setting out: every two classes of one part are met.
-use Rattle.std.proofs.Common.{◌≡◌, ℕ, ◌+◌, ◌<◌, ◌≤◌, ◌⊎◌, List, [], ◌∷◌, ◌++◌, length, set, Some, is_none, Option, sym, refl, ap, ◌∙◌, subst, inl, inr, arith}
+use Rattle.std.proofs.Common.{◌≡◌, ℕ, ◌+◌, ◌<◌, ◌≤◌, true, List, [], length, is_none, Option, sym, refl, subst, inl, inr, arith}
 use Rattle.std.proofs.lemmas.List.{get_or_past}
-use Rattle.std.proofs.lemmas.Bool.{false≢true}
 use Rattle.std.proofs.lemmas.List.Sums.{count_by-le-length}
 use Rattle.classes.specs.declared.ClassSet.{ClassSet}
 use Rattle.classes.specs.Sets.{has, none, Took}
-use Rattle.classes.proofs.Members.{has_none}
+use Rattle.classes.proofs.Members.{not_in_none}
 use Rattle.book.specs.declared.sealed.Book.{Book}
 use Rattle.book.specs.Tables.{set_at, At}
 use Rattle.search.specs.declared.ClassPair.{ClassPair}
 use Rattle.search.specs.declared.trail.Trace.{Trace}
 use Rattle.search.specs.declared.trail.Origin.TheVariants.{Part}
-use Rattle.search.specs.Pairs.{Proper, ordered, place_of, mark_of, unmarked}
-use Rattle.search.specs.Rows.{Excludes}
-use Rattle.search.specs.Search.{Source, Stepped, Met, Nothing, Sources, Shown}
+use Rattle.search.specs.Pairs.{ordered, mark_of, unmarked}
+use Rattle.search.specs.Search.{Met, Nothing, Sources}
 use Rattle.search.proofs.Pairs.{ordered_both}
 use Rattle.search.proofs.Marking.{new_entry}
-use Rattle.search.proofs.Turns.{Done, From, Cells, Fresh, Turned, new_pair, new_proper, turned, struck}
+use Rattle.search.proofs.Turns.{Done, From, Fresh, Turn}
 
 -- two classes of part p
 abbrev pub Sown : List ClassSet → ℕ → ℕ → ℕ → Type 0
@@ -45,34 +43,26 @@ shallow T s = omega (arith, count_by-le-length (λ (e : Option Trace). is_none e
 
 pub sown_all : (P : List ClassSet) (T : List (Option Trace)) (k : ℕ) → length P ≤ k → Done (Sown P) (From k) T 1 → Sources P T
 sown_all P T k l d p a c x y = elim (d p a c (x, y)) [
-  | inl h ↦ absurd (false≢true (sym (has_none a) ∙ ap (λ (s : ClassSet). has s a) (sym (get_or_past P p none (omega arith))) ∙ x))
+  | inl h ↦ not_in_none a (subst (λ (s : ClassSet). has s a ≡ true) (get_or_past P p none (omega arith)) x)
   | inr n ↦ n
 ]
 
--- partner d of class a is taken, and their pair q is met
-module _ (P : List ClassSet) (b : Book) (W : List ClassPair) (T : List (Option Trace)) (m : Met P b Nothing W T 1) (size : length T ≡ 2080) (p : ℕ) (s : ClassSet) (a : ℕ) (la : a < 64) (ia : At P p a)
-    (r r' : ClassSet) (d : ℕ) (fr : Fresh T (set_at P p) a r) (w : Took r d r') (q : ClassPair) (is : q ≡ ordered a d) where
-  abbrev entry : Trace
-  entry = record { depth = 0; origin = Part p }
+abbrev sown_entry : ℕ → Trace
+sown_entry p = record { depth = 0; origin = Part p }
 
-  lo : 1 + unmarked T ≤ 2081
-  lo = shallow T size
-
-  pub sown_new : mark_of T q ≡ 0
-  sown_new = new_pair P b Nothing (Sown P) W T 1 p s (set_at P p) a r r' d m lo size fr la w q is entry refl
-
-  pub sown_proper : Proper q
-  sown_proper = new_proper P b Nothing (Sown P) W T 1 p s (set_at P p) a r r' d m lo size fr la w q is entry refl
-
-  link : Source P (set T (place_of q) (Some entry)) q ⊎ Stepped b (set T (place_of q) (Some entry)) q
-  link =
+-- partner d of class a is taken, and their pair q is to be met
+pub sown : {P : List ClassSet} {b : Book} {W : List ClassPair} {T : List (Option Trace)} → Met P b Nothing W T 1 → length T ≡ 2080 → (p : ℕ) {a : ℕ} {r r' : ClassSet} {d : ℕ} {q : ClassPair}
+    → a < 64 → At P p a → Fresh T (set_at P p) a r → Took r d r' → q ≡ ordered a d → Turn P b Nothing W T 1 (set_at P p) a r r' d q (sown_entry p)
+sown {P = P} {T = T} m size p {a = a} {d = d} {q = q} la ia fr w is = record {
+  met = m;
+  room = shallow T size;
+  size = size;
+  fresh = fr;
+  low = la;
+  took = w;
+  is = is;
+  deep = refl;
+  link = λ fit _.
       let both = subst (λ (y : ClassPair). At P p y.left × At P p y.right) (sym is) (ordered_both (λ x. At P p x) a d ia (fr.inside d w.was)) in
-      inl (record { part = p; entry = new_entry T size q entry sown_proper; left = both.0; right = both.1 })
-
-  module _ (T' : List (Option Trace)) (k : T' ≡ set T (place_of q) (Some entry)) where
-    pub sown_turned : (W' : List ClassPair) → W' ≡ W ++ q ∷ [] → ((i : ℕ) → Excludes b i q → ⊥) → Done (Sown P) (Cells p s a r) T 1
-        → Turned P b Nothing (Sown P) W' T' 1 p s (set_at P p) a r' T (length W + unmarked T)
-    sown_turned = turned P b Nothing (Sown P) W T 1 p s (set_at P p) a r r' d m lo size fr la w q is entry refl link T' k
-
-    pub sown_struck : (i : ℕ) → Excludes b i q → Shown P b T' q i
-    sown_struck i x = struck P b Nothing (Sown P) W T 1 p s (set_at P p) a r r' d m lo size fr la w q is entry refl link T' k i x (λ _ _ _ _. omega arith)
+      inl (record { part = p; entry = new_entry T size q (sown_entry p) fit; left = both.0; right = both.1 });
+}

@@ -1,10 +1,10 @@
 -- Turns of the loops: what is still to do, and one pair more that is met.
 use Rattle.std.proofs.Common.{◌≡◌, ℕ, ◌+◌, ◌^◌, ◌<◌, ◌≤◌, true, not, ◌&&◌, ◌⊎◌, List, [], ◌∷◌, ◌++◌, length, set, Some, Option, sym, ap, ◌∙◌, subst, inl, inr, append_assoc, arith}
 use Rattle.std.proofs.lemmas.List.{length_push}
-use Rattle.std.proofs.lemmas.Bool.{cases_eq, cases_Bool, both_ways, false≢true, ne_eqb, eqb-false, and_parts, and_from, not-true, not_from_false}
+use Rattle.std.proofs.lemmas.Bool.{cases_eq, cases_Bool, both_ways, ne_eqb, eqb-false, and_parts, and_from, not-true, not_from_false}
 use Rattle.classes.specs.declared.ClassSet.{ClassSet}
 use Rattle.classes.specs.Sets.{has, none, weight, Took}
-use Rattle.classes.proofs.Members.{has_none, has_low}
+use Rattle.classes.proofs.Members.{not_in_none, has_low}
 use Rattle.book.specs.declared.sealed.Book.{Book}
 use Rattle.book.specs.Tables.{set_at}
 use Rattle.search.specs.declared.ClassPair.{ClassPair}
@@ -49,9 +49,6 @@ Rows k s g c d = (k < g) ⊎ ((g ≡ k) × (has s c ≡ true))
 -- besides, with class a the partners of r
 abbrev pub Cells : ℕ → ClassSet → ℕ → ClassSet → ℕ → ℕ → ℕ → Type 0
 Cells k s a r g c d = (k < g) ⊎ ((g ≡ k) × ((has s c ≡ true) ⊎ ((c ≡ a) × (has r d ≡ true))))
-
-not_in_none : {X : Type 0} (s : ClassSet) (c : ℕ) → s ≡ none → has s c ≡ true → X
-not_in_none s c e h = absurd (false≢true (sym (has_none c) ∙ ap (λ (x : ClassSet). has x c) (sym e) ∙ h))
 
 -- what is left once the lowest class is taken
 left_over : {s t : ClassSet} {k : ℕ} (c : ℕ) → Took s k t → has s c ≡ true → (c ≡ k → ⊥) → has t c ≡ true
@@ -110,14 +107,14 @@ module _ (A : ℕ → ℕ → ℕ → Type 0) (T : List (Option Trace)) (n k : �
   done_row s a r e h g c d x = elim (h g c d x) [
     | inl y ↦ elim y [
       | inl lt ↦ inl (inl lt)
-      | inr z ↦ elim z.1 [ inl m ↦ inl (inr (z.0, m)) | inr m ↦ not_in_none r d e m.1 ]
+      | inr z ↦ elim z.1 [ inl m ↦ inl (inr (z.0, m)) | inr m ↦ not_in_none d (subst (λ (x : ClassSet). has x d ≡ true) e m.1) ]
     ]
     | inr y ↦ inr y
   ]
 
   pub done_all : (s : ClassSet) → s ≡ none → Done A (Rows k s) T n → Done A (From (k + 1)) T n
   done_all s e h g c d x = elim (h g c d x) [
-    | inl y ↦ elim y [ inl lt ↦ inl (omega arith) | inr z ↦ not_in_none s c e z.1 ]
+    | inl y ↦ elim y [ inl lt ↦ inl (omega arith) | inr z ↦ not_in_none c (subst (λ (x : ClassSet). has x c ≡ true) e z.1) ]
     | inr y ↦ inr y
   ]
 
@@ -261,46 +258,60 @@ module _ (P : List ClassSet) (b : Book) (N : ClassPair → Type 0) where
     pub same : length W + unmarked T ≡ total
     pub stays : (q : ClassPair) → 0 < mark_of before q → entry_of T q ≡ entry_of before q
 
-  -- partner d of a is taken, and their pair q is met with the entry e
-  module _ (A : ℕ → ℕ → ℕ → Type 0) (W : List ClassPair) (T : List (Option Trace)) (depth k : ℕ) (s s₀ : ClassSet) (a : ℕ) (r r' : ClassSet) (d : ℕ)
-      (m : Met P b N W T depth) (lo : depth + unmarked T ≤ 2081) (size : length T ≡ 2080) (fr : Fresh T s₀ a r) (la : a < 64)
-      (w : Took r d r') (q : ClassPair) (is : q ≡ ordered a d) (e : Trace) (em : e.depth + 1 ≡ depth) where
-    pub new_pair : mark_of T q ≡ 0
-    new_pair = ap (mark_of T) is ∙ fr.new d w.was
-
-    pub new_proper : Proper q
-    new_proper = subst Proper (sym is) (ordered_proper a d la w.low)
-
-    fresh_next : Fresh (set T (place_of q) (Some e)) s₀ a r'
-    fresh_next = record {
-      inside = λ c h. fr.inside c (was_there c w h).0;
-      low = λ c h. fr.low c (was_there c w h).0;
-      new = λ c h. let x = was_there c w h in
-          elim (other_entry T size q e new_proper (ordered a c) (ordered_proper a c la (fr.low c x.0))) [
-            | inl y ↦ absurd (x.1 (sym (partner_one a d c (sym is ∙ y))))
-            | inr o ↦ ap mark o ∙ fr.new c x.0
-          ];
-    }
-
+  -- partner d of a is taken, and their pair q is to be met with the entry e
+  pub record Turn (W : List ClassPair) (T : List (Option Trace)) (depth : ℕ) (s₀ : ClassSet) (a : ℕ) (r r' : ClassSet) (d : ℕ) (q : ClassPair) (e : Trace) : Type 0 where
+    pub met : Met P b N W T depth
+    pub room : depth + unmarked T ≤ 2081
+    pub size : length T ≡ 2080
+    pub fresh : Fresh T s₀ a r
+    pub low : a < 64
+    pub took : Took r d r'
+    pub is : q ≡ ordered a d
+    pub deep : e.depth + 1 ≡ depth
     -- the new pair is a source or comes by a step
-    module _ (l : Source P (set T (place_of q) (Some e)) q ⊎ Stepped b (set T (place_of q) (Some e)) q) (T' : List (Option Trace)) (k' : T' ≡ set T (place_of q) (Some e)) where
-      abbrev Tn : List (Option Trace)
-      Tn = set T (place_of q) (Some e)
+    pub link : Proper q → mark_of T q ≡ 0 → Source P (set T (place_of q) (Some e)) q ⊎ Stepped b (set T (place_of q) (Some e)) q
 
-      pub turned : (W' : List ClassPair) → W' ≡ W ++ q ∷ [] → ((i : ℕ) → Excludes b i q → ⊥)
-          → Done A (Cells k s a r) T depth → Turned A W' T' depth k s s₀ a r' T (length W + unmarked T)
-      turned W' ew x dn =
-          let mm : Met P b N (W ++ q ∷ []) Tn depth = met_more W T depth m lo size q e new_proper new_pair em l x in
-          let nn : Near Tn (ordered a d) depth = subst (λ (y : ClassPair). Near Tn y depth) is (new_near W T depth m lo size q e new_proper new_pair em l) in
-          let dd : Done A (Cells k s a r') Tn depth = done_next A T depth k Tn s a r r' d w (λ y. near_stays T size q e new_proper new_pair y depth) nn dn in
-          let ls : unmarked Tn + 1 ≡ unmarked T = one_fewer T size q e new_proper new_pair in
-          record {
-            met = subst (λ (X : List (Option Trace)). Met P b N W' X depth) (sym k') (subst (λ (X : List ClassPair). Met P b N X Tn depth) (sym ew) mm);
-            done = subst (λ (X : List (Option Trace)). Done A (Cells k s a r') X depth) (sym k') dd;
-            fresh = subst (λ (X : List (Option Trace)). Fresh X s₀ a r') (sym k') fresh_next;
-            same = omega (arith, ap length ew, ap unmarked k', length_push W q, ls);
-            stays = λ y h. ap (λ (X : List (Option Trace)). entry_of X y) k' ∙ old_entry T size q e new_proper new_pair y h;
-          }
+module _ {P : List ClassSet} {b : Book} {N : ClassPair → Type 0} {W : List ClassPair} {T : List (Option Trace)} {depth : ℕ} {s₀ : ClassSet} {a : ℕ} {r r' : ClassSet} {d : ℕ} {q : ClassPair} {e : Trace}
+    (t : Turn P b N W T depth s₀ a r r' d q e) where
+  pub new_pair : mark_of T q ≡ 0
+  new_pair = ap (mark_of T) t.is ∙ t.fresh.new d t.took.was
 
-      pub struck : (i : ℕ) → Excludes b i q → ((p : ℕ) (v : List ℕ) (j : ℕ) → Reaches P b p v j → depth ≤ length v + 1) → Shown P b T' q i
-      struck i x least = subst (λ (X : List (Option Trace)). Shown P b X q i) (sym k') (shown W T depth m lo size q e new_proper new_pair em l i x least)
+  pub new_proper : Proper q
+  new_proper = subst Proper (sym t.is) (ordered_proper a d t.low t.took.low)
+
+  abbrev Tn : List (Option Trace)
+  Tn = set T (place_of q) (Some e)
+
+  link : Source P Tn q ⊎ Stepped b Tn q
+  link = t.link new_proper new_pair
+
+  fresh_next : Fresh Tn s₀ a r'
+  fresh_next = record {
+    inside = λ c h. t.fresh.inside c (was_there c t.took h).0;
+    low = λ c h. t.fresh.low c (was_there c t.took h).0;
+    new = λ c h. let x = was_there c t.took h in
+        elim (other_entry T t.size q e new_proper (ordered a c) (ordered_proper a c t.low (t.fresh.low c x.0))) [
+          | inl y ↦ absurd (x.1 (sym (partner_one a d c (sym t.is ∙ y))))
+          | inr o ↦ ap mark o ∙ t.fresh.new c x.0
+        ];
+  }
+
+  module _ {T' : List (Option Trace)} (k' : T' ≡ set T (place_of q) (Some e)) where
+    pub turned : (A : ℕ → ℕ → ℕ → Type 0) (k : ℕ) (s : ClassSet) {W' : List ClassPair} → W' ≡ W ++ q ∷ [] → ((i : ℕ) → Excludes b i q → ⊥)
+        → Done A (Cells k s a r) T depth → Turned P b N A W' T' depth k s s₀ a r' T (length W + unmarked T)
+    turned A k s {W'} ew x dn =
+        let mm : Met P b N (W ++ q ∷ []) Tn depth = met_more P b N W T depth t.met t.room t.size q e new_proper new_pair t.deep link x in
+        let nn : Near Tn (ordered a d) depth = subst (λ (y : ClassPair). Near Tn y depth) t.is (new_near P b N W T depth t.met t.room t.size q e new_proper new_pair t.deep link) in
+        let dd : Done A (Cells k s a r') Tn depth = done_next A T depth k Tn s a r r' d t.took (λ y. near_stays T t.size q e new_proper new_pair y depth) nn dn in
+        let ls : unmarked Tn + 1 ≡ unmarked T = one_fewer T t.size q e new_proper new_pair in
+        record {
+          met = subst (λ (X : List (Option Trace)). Met P b N W' X depth) (sym k') (subst (λ (X : List ClassPair). Met P b N X Tn depth) (sym ew) mm);
+          done = subst (λ (X : List (Option Trace)). Done A (Cells k s a r') X depth) (sym k') dd;
+          fresh = subst (λ (X : List (Option Trace)). Fresh X s₀ a r') (sym k') fresh_next;
+          same = omega (arith, ap length ew, ap unmarked k', length_push W q, ls);
+          stays = λ y h. ap (λ (X : List (Option Trace)). entry_of X y) k' ∙ old_entry T t.size q e new_proper new_pair y h;
+        }
+
+    pub struck : (i : ℕ) → Excludes b i q → ((p : ℕ) (v : List ℕ) (j : ℕ) → Reaches P b p v j → depth ≤ length v + 1) → Shown P b T' q i
+    struck i x least = subst (λ (X : List (Option Trace)). Shown P b X q i) (sym k')
+        (shown P b N W T depth t.met t.room t.size q e new_proper new_pair t.deep link i x least)

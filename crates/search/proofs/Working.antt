@@ -1,9 +1,9 @@
 -- Working on a pair that left the line, and what an empty line says.
-use Rattle.std.proofs.Common.{◌≡◌, ℕ, ◌+◌, ◌<◌, ◌≤◌, ◌&&◌, ltb, ◌⊎◌, List, [], ◌∷◌, ◌++◌, length, set, Some, Option, sym, refl, ap, ◌∙◌, subst, inl, inr, append-nil, arith}
-use Rattle.std.proofs.lemmas.Bool.{cases_lt, false≢true, le-ltb, and_right, cond-false}
+use Rattle.std.proofs.Common.{◌≡◌, ℕ, ◌+◌, ◌<◌, ◌≤◌, true, ◌&&◌, ltb, ◌⊎◌, List, [], ◌∷◌, ◌++◌, length, set, Some, Option, sym, refl, ap, ◌∙◌, subst, inl, inr, append-nil, arith}
+use Rattle.std.proofs.lemmas.Bool.{cases_lt, le-ltb, and_right, cond-false}
 use Rattle.classes.specs.declared.ClassSet.{ClassSet}
 use Rattle.classes.specs.Sets.{has, none, Took}
-use Rattle.classes.proofs.Members.{has_none}
+use Rattle.classes.proofs.Members.{not_in_none}
 use Rattle.book.specs.declared.sealed.Book.{Book}
 use Rattle.book.specs.Books.{leads_set}
 use Rattle.search.specs.declared.ClassPair.{ClassPair}
@@ -12,10 +12,10 @@ use Rattle.search.specs.declared.trail.Origin.TheVariants.{Step}
 use Rattle.search.specs.Graph.{Lead, Way, stay, go, Reaches}
 use Rattle.search.specs.Pairs.{Proper, ordered, place_of, entry_of, mark, mark_of, unmarked}
 use Rattle.search.specs.Rows.{Excludes}
-use Rattle.search.specs.Search.{Waits, Near, Source, Stepped, Closed, Met, Sources, Between, Shown}
+use Rattle.search.specs.Search.{Waits, Near, Source, Stepped, Closed, Met, Sources, Between}
 use Rattle.search.proofs.Pairs.{ordered_up, ordered_down, ordered_sym}
 use Rattle.search.proofs.Marking.{new_entry, old_entry}
-use Rattle.search.proofs.Turns.{Done, From, Cells, Fresh, Turned, waits_cases, new_pair, new_proper, turned, struck}
+use Rattle.search.proofs.Turns.{Done, From, Fresh, Turn, waits_cases}
 
 -- the two classes of p lead by f to c and d
 abbrev pub Led : Book → ClassPair → ℕ → ℕ → ℕ → Type 0
@@ -34,7 +34,7 @@ lead_low b x f c h = elim (cases_lt f 16) [
   | inl l ↦ l
   | inr g ↦
       let e : leads_set b x f ≡ none = cond-false (ltb x 64 && ltb f 16) _ none (and_right (ltb x 64) (ltb f 16) (le-ltb f 16 g)) in
-      absurd (false≢true (sym (has_none c) ∙ ap (λ (s : ClassSet). has s c) (sym e) ∙ h))
+      not_in_none c (subst (λ (s : ClassSet). has s c ≡ true) e h)
 ]
 
 -- all that a closed pair leads to is met, whichever of its classes comes first
@@ -148,7 +148,7 @@ module _ (P : List ClassSet) (b : Book) where
     };
   }
 
-  module _ (W : List ClassPair) (T : List (Option Trace)) (p : ClassPair) (depth : ℕ) (m : AtWork P b W T p depth) where
+  module _ {W : List ClassPair} {T : List (Option Trace)} {p : ClassPair} {depth : ℕ} (m : AtWork P b W T p depth) where
     -- what lies less deep than p is met
     short : (k x y : ℕ) {c d : ℕ} {w : List ℕ} → Near T (ordered x y) (k + 1) → Way b x w c → Way b y w d → k + length w < depth
         → Proper (ordered c d) × (0 < mark_of T (ordered c d))
@@ -196,9 +196,9 @@ module _ (P : List ClassSet) (b : Book) where
     })
 
     -- the pair is still worked on when others are met
-    goes_on : (W' : List ClassPair) (T' : List (Option Trace)) → Met P b (λ q. p ≡ q) W' T' (depth + 1)
+    pub goes_on : {W' : List ClassPair} {T' : List (Option Trace)} → Met P b (λ q. p ≡ q) W' T' (depth + 1)
         → ((q : ClassPair) → 0 < mark_of T q → entry_of T' q ≡ entry_of T q) → AtWork P b W' T' p depth
-    goes_on W' T' x stays = record {
+    goes_on x stays = record {
       met = x;
       sources = λ q c d h k. let n = m.sources q c d h k in let e = ap mark (stays (ordered c d) n.met) in
           record { proper = n.proper; met = omega (arith, n.met, e); by = omega (arith, n.by, e) };
@@ -207,31 +207,17 @@ module _ (P : List ClassSet) (b : Book) where
       some = m.some;
     }
 
-  -- partner d of class c is taken, and their pair q is met
-  module _ (W : List ClassPair) (T : List (Option Trace)) (p : ClassPair) (depth : ℕ) (m : AtWork P b W T p depth) (size : length T ≡ 2080) (f : ℕ) (s : ClassSet) (c : ℕ) (lc : c < 64) (ld : Lead b p.left f c)
-      (r r' : ClassSet) (d : ℕ) (fr : Fresh T (leads_set b p.right f) c r) (w : Took r d r') (q : ClassPair) (is : q ≡ ordered c d) where
-    abbrev entry : Trace
-    entry = next W T p depth m f
-
-    lo : depth + 1 + unmarked T ≤ 2081
-    lo = low W T p depth m
-
-    pub pair_new : mark_of T q ≡ 0
-    pair_new = new_pair P b (λ x. p ≡ x) (Led b p) W T (depth + 1) f s (leads_set b p.right f) c r r' d m.met lo size fr lc w q is entry refl
-
-    pub pair_proper : Proper q
-    pair_proper = new_proper P b (λ x. p ≡ x) (Led b p) W T (depth + 1) f s (leads_set b p.right f) c r r' d m.met lo size fr lc w q is entry refl
-
-    link : Source P (set T (place_of q) (Some entry)) q ⊎ Stepped b (set T (place_of q) (Some entry)) q
-    link = step_link W T p depth m size f c d q pair_proper pair_new is (ld, fr.inside d w.was)
-
-    module _ (T' : List (Option Trace)) (k : T' ≡ set T (place_of q) (Some entry)) where
-      pub pair_turned : (W' : List ClassPair) → W' ≡ W ++ q ∷ [] → ((i : ℕ) → Excludes b i q → ⊥) → Done (Led b p) (Cells f s c r) T (depth + 1)
-          → Turned P b (λ x. p ≡ x) (Led b p) W' T' (depth + 1) f s (leads_set b p.right f) c r' T (length W + unmarked T) × AtWork P b W' T' p depth
-      pair_turned W' ew x dn =
-          let n = turned P b (λ x. p ≡ x) (Led b p) W T (depth + 1) f s (leads_set b p.right f) c r r' d m.met lo size fr lc w q is entry refl link T' k W' ew x dn in
-          (n, goes_on W T p depth m W' T' n.met n.stays)
-
-      pub pair_struck : (i : ℕ) → Excludes b i q → Shown P b T' q i
-      pair_struck i x =
-          struck P b (λ x. p ≡ x) (Led b p) W T (depth + 1) f s (leads_set b p.right f) c r r' d m.met lo size fr lc w q is entry refl link T' k i x (least W T p depth m)
+    -- partner d of class c is taken, and their pair q is to be met
+    pub pair : length T ≡ 2080 → (f : ℕ) {c : ℕ} {r r' : ClassSet} {d : ℕ} {q : ClassPair} → c < 64 → Lead b p.left f c → Fresh T (leads_set b p.right f) c r → Took r d r' → q ≡ ordered c d
+        → Turn P b (λ x. p ≡ x) W T (depth + 1) (leads_set b p.right f) c r r' d q (next f)
+    pair size f {c = c} {d = d} {q = q} lc ld fr w is = record {
+      met = m.met;
+      room = low;
+      size = size;
+      fresh = fr;
+      low = lc;
+      took = w;
+      is = is;
+      deep = refl;
+      link = λ fit z. step_link size f c d q fit z is (ld, fr.inside d w.was);
+    }

@@ -21,7 +21,8 @@ pub struct ClassPair {
     pub right: u8,
 }
 
-// A part, an exclusion row and the number of letters between them, which stand in memory that the caller lends.
+// A part, an exclusion row and the number of letters between them, which stand in memory that the caller lends, as a form that
+// the project keeps (docs/DECISIONS.md).
 #[derive(Clone, Copy, PartialEq, Eq, Debug)]
 pub struct Found {
     pub part: u8,
@@ -41,7 +42,7 @@ impl ClassPair {
         }
     }
 
-    // The place of the pair among the 2,080.
+    // The place of the pair among the 2,080: a table of 64 by 64 would have a second place for each pair of two classes, and the count of places bounds a way's letters.
     fn place(self) -> usize
         requires { Proper self }
         ensures { result ≡ place_of self }

@@ -21,7 +21,7 @@ pub struct Trace {
 }
 
 // The trace of each pair that is met, at the pair's place; `seen` has at each class its partners in such pairs.
-// A table by place and no map, since a map needs a heap.
+// A table by place: there is one place for each of the 2,080 unordered pairs, and that a way has at most 2,079 letters is proved by counting them.
 #[derive(Drop)]
 pub struct Trail {
     trace: [Option<Trace>; 2080],
@@ -52,6 +52,7 @@ impl Trail {
     }
 
     // The partners of a class in pairs that are met.
+    // That the class is below 64 is asked: a type of its own would be made from, and turned back into, a number at every table.
     pub(crate) fn partners(&self, class: u8) -> ClassSet
         requires { class < 64 }
         ensures { result ≡ set_at self.now.seen class }

@@ -19,6 +19,7 @@ pub struct Excluded {
 }
 
 // The pairs that are met, and of those the line of the pairs that wait; for each other pair a place is left in the line.
+// `Begun` holds of a walk only before it begins, and `Same` is of two moments of one: no ghost field, which holds always, says either.
 #[derive(Drop)]
 pub struct Walk<'a> {
     parts: &'a [ClassSet; 256],
@@ -67,7 +68,7 @@ impl<'a> Walk<'a> {
     }
 
     // Meets every two classes of one part, up to the first that a row excludes.
-    // Its loops over two classes stand in `hunt` too, whose loops have to be nested in one function so that its label leaves them.
+    // Its loops over two classes stand in `hunt` too, since each has its loops in one function: a form that the project keeps, docs/DECISIONS.md.
     fn seed(&mut self) -> Option<Excluded>
         requires { Begun self.old }
         ensures same { Same self.old self.new }
@@ -79,10 +80,8 @@ impl<'a> Walk<'a> {
                 depth: 0,
                 origin: Origin::Part(part as u8),
             };
-            let mut left = *classes;
-            while let Some(a) = left.take_lowest() {
-                let mut right = classes.minus(self.trail.partners(a));
-                while let Some(b) = right.take_lowest() {
+            for a in *classes {
+                for b in classes.minus(self.trail.partners(a)) {
                     let pair = ClassPair::of(a, b);
                     if let Some(row) = self.meet(pair, trace) {
                         return Some(Excluded { pair, row });
@@ -94,7 +93,7 @@ impl<'a> Walk<'a> {
     }
 
     // Meets pairs in the order of their depth, up to the first that a row excludes.
-    // Sets are taken apart by `take_lowest`, here and in `seed`: a `for` over them costs a fifth more instructions.
+    // One function whose loops a label leaves, and `found` beside it: a form that the project keeps, docs/DECISIONS.md.
     pub(crate) fn hunt(&mut self) -> Option<Excluded>
         requires { Begun self.old }
         ensures same { Same self.old self.new }
@@ -111,11 +110,9 @@ impl<'a> Walk<'a> {
                     depth,
                     origin: Origin::Step { from, letter },
                 };
-                let mut left = self.book.leads(from.left, letter);
                 let right = self.book.leads(from.right, letter);
-                while let Some(c) = left.take_lowest() {
-                    let mut partners = right.minus(self.trail.partners(c));
-                    while let Some(d) = partners.take_lowest() {
+                for c in self.book.leads(from.left, letter) {
+                    for d in right.minus(self.trail.partners(c)) {
                         let pair = ClassPair::of(c, d);
                         if let Some(row) = self.meet(pair, trace) {
                             found = Some(Excluded { pair, row });

@@ -1,10 +1,11 @@
 -- The law of questions.
-use Rattle.std.proofs.Common.{◌≡◌, ℕ, Bool, true, false, cond, ◌⊎◌, List, [], ◌∷◌, ◌++◌, Ok, Err, Result, sym, refl, ap, ◌∙◌, inl, inr, append_assoc, arith}
-use Rattle.terms.specs.Refusals.{Question, ask, asked, AllYes, FirstNo, Answers}
+use Rattle.std.proofs.Common.{◌≡◌, ℕ, Bool, true, false, cond, ◌⊎◌, List, [], ◌∷◌, ◌++◌, Ok, Err, Result, sym, refl, ap, ◌∙◌, inl, inr, append_assoc}
+use Rattle.terms.specs.declared.refusal.Refusal.{Refusal}
+use Rattle.terms.specs.Refusals.{Question, ask, asked, numbered, AllYes, FirstNo, Answers}
 
 module _ {A : Type 0} (x : A) where
   ok_not : (n : ℕ) → ◌≡◌ {A = Result A ℕ} (Err n) (Ok x) → ⊥
-  ok_not n e = let z : ◌≡◌ {A = ℕ} 0 1 = cc in omega arith
+  ok_not n e = cc
 
   -- a question and those after it, by its answer
   yes_on : (q : Question) (qs : List Question) → q.holds ≡ true → asked (q ∷ qs) x ≡ asked qs x
@@ -68,3 +69,17 @@ asked_no qs more x y n e =
     let m : qs ++ more ≡ f.before ++ (ask n false ∷ (f.after ++ more)) =
     ap (λ (z : List Question). z ++ more) f.place ∙ append_assoc f.before (ask n false ∷ f.after) more in
     ap (λ (z : List Question). asked z y) m ∙ first_at y n f.before (f.after ++ more) f.earlier
+
+-- a call that is done answers the value that its questions lead to
+pub own_value : {A : Type 0} (qs : List Question) (x v : A) → asked qs x ≡ Ok v → asked qs x ≡ Ok x
+own_value [] x v e = refl
+own_value {A = A} (q ∷ qs) x v e = by q.holds (asked qs x) (own_value qs x v) e
+  where
+    by : (b : Bool) (r : Result A ℕ) → (r ≡ Ok v → r ≡ Ok x) → cond b r (Err q.number_of) ≡ Ok v → cond b r (Err q.number_of) ≡ Ok x
+    by true r h e = h e
+    by false r h e = cc
+
+-- and so without the refusal's number
+pub numbered_ok : {A : Type 0} (r : Result A Refusal) (x : A) → numbered r ≡ Ok x → r ≡ Ok x
+numbered_ok (Ok y) x e = cc
+numbered_ok (Err f) x e = cc

@@ -34,7 +34,7 @@ impl Fact {
         Ok(())
     }
 
-    // Are the two the same fact?
+    // Are the two the same fact? `==` says so too; the name stays, since callers have it.
     pub fn same(self, other: Fact) -> bool
         ensures { result ≡ same_fact self other }
     {

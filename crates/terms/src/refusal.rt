@@ -2,6 +2,7 @@
 ghost use Rattle.std.specs.Prelude.{◌≡◌, Some};
 ghost use Rattle.terms.specs.Refusals.{number, reason};
 
+use std::error::Error;
 use std::fmt;
 
 // What was wrong, and the number of it; a refused call has changed nothing.
@@ -69,3 +70,5 @@ impl fmt::Display for Refusal {
         f.write_str(self.reason())
     }
 }
+
+impl Error for Refusal {}

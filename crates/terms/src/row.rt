@@ -8,6 +8,7 @@ use crate::refusal::Refusal;
 
 // One rule as numbers: the first `count` features, at most four, are in use.
 // Kind and count are numbers, since rows come from outside with any, and `check` refuses those that are none.
+// The four features are an array by value: a form that the project keeps, docs/DECISIONS.md.
 #[derive(Clone, Copy, Default, PartialEq, Eq, Debug)]
 pub struct Row {
     pub kind: u8,

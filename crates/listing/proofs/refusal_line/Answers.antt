@@ -6,7 +6,6 @@ use Rattle.listing.proofs.refusal_line.Goals as goal
 
 pub returns : goal.returns
 returns c =
-    let e = c.args.refusal in
-    let k = c.args.index in
-    IfOk-weaker c.format.result (λ s. string_bytes s ≡ fault_text (record { refusal = e; index = k }) ++ (10 ∷ [])) (λ s. string_bytes s ≡ refusal_line e k)
+    let f = c.args.fault in
+    IfOk-weaker c.format.result (λ s. string_bytes s ≡ fault_text f ++ (10 ∷ [])) (λ s. string_bytes s ≡ refusal_line f.refusal f.index)
     (λ _ wrote. wrote ∙ simp append_assoc) c.format.ensures.ok

@@ -1,8 +1,8 @@
 use Rattle.std.proofs.Common.{◌≡◌, ℕ, ◌+◌, ◌<◌, true, ◌&&◌, ◌||◌, eqb, ltb, ◌↔◌, sym, ap, ◌∙◌, subst, inl, inr, arith}
-use Rattle.std.proofs.lemmas.Bool.{cases_eq, or_cases, or_left, or_right, and_parts, and_from, eqb-true, eq-eqb, lt-ltb, false≢true, both_ways}
+use Rattle.std.proofs.lemmas.Bool.{cases_eq, or_cases, or_left, or_right, and_parts, and_from, eqb-true, eq-eqb, lt-ltb, both_ways}
 use Rattle.classes.specs.declared.ClassSet.{ClassSet}
 use Rattle.classes.specs.Sets.{has}
-use Rattle.classes.proofs.Members.{has_none}
+use Rattle.classes.proofs.Members.{not_in_none}
 use Rattle.terms.specs.Worlds.{rules_of}
 use Rattle.terms.specs.Verdicts.{Possible}
 use Rattle.book.specs.Books.{rows_of}
@@ -33,7 +33,7 @@ module _ (P : ℕ → Type 0) (s t : ClassSet) (n : ℕ) (low : n < 64) (old : (
   )
 
 pub loop-class-init : goal.loop-class-init
-loop-class-init c = λ A. ((λ h. absurd (false≢true (sym (has_none A) ∙ h))), (λ p. let z = p.0 in absurd (omega arith)))
+loop-class-init c = λ A. (not_in_none A, (λ p. let z = p.0 in absurd (omega arith)))
 
 pub loop-class-preserved : goal.loop-class-preserved
 loop-class-preserved c =

@@ -7,7 +7,7 @@ use Rattle.book.proofs.Stepping.{open_first, open_next, measure_less}
 use Rattle.book.proofs.links.Links.settle.Goals as goal
 
 pub loop-a-init : goal.loop-a-init
-loop-a-init c = (omega arith, λ R d lo r. open_first R c.args.within.now all has_all r)
+loop-a-init c = (omega arith, λ R d r. open_first R c.args.within.now all has_all r)
 
 pub loop-a-smaller : goal.loop-a-smaller
 loop-a-smaller c =
@@ -23,8 +23,11 @@ loop-a-preserved c =
     let e : joined c.take_lowest.new.self c.visit.result ≡ c.union-waiting.result = sym c.union-waiting.ensures.value in
     let v = c.visit.new.within in (
       c.visit.array_long,
-      λ R d lo r.
+      λ R d r.
           subst (λ (s : ClassSet). Open R v s) e
           (open_next R c.loop-a.within v c.loop-a.waiting c.take_lowest.new.self c.visit.result c.in-Some.a
-          c.in-Some.ensures (c.visit.ensures.step R d) (λ o k. c.visit.ensures.served R d lo o k) (c.loop-a.invariant.1 R d lo r)),
+          c.in-Some.ensures (c.visit.ensures.step R d) (c.visit.ensures.served R d) (c.loop-a.invariant.1 R d r)),
     )
+
+pub returns : goal.returns
+returns c = λ R d r. subst (λ (s : ClassSet). Open R c.loop-a.within s) c.in_default.ensures.0 (c.loop-a.invariant.1 R d r)

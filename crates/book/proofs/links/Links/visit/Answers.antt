@@ -13,7 +13,7 @@ loop-by-preserved c =
     let f = c.loop-by.by-index in
     rw c.union-again.ensures.value (
       (λ R d. step_then R u v w g h (i.0 R d) (c.pull.ensures.step R f (d.by_is f (omega arith)) d.into_has)),
-      (λ R d lo o k. served_more R v w g h c.args.a f (c.pull.ensures.step R f (d.by_is f (omega arith)) d.into_has)
-          (i.1 R d lo o) (c.pull.ensures.served R f (d.by_is f (omega arith)) d.into_has lo ((i.0 R d).ordered o)) k),
+      (λ R d o k. served_more R v w g h c.args.a f (c.pull.ensures.step R f (d.by_is f (omega arith)) d.into_has)
+          (i.1 R d o) (c.pull.ensures.served R f (d.by_is f (omega arith)) d.into_has ((i.0 R d).ordered o)) k),
       heavier_then u v w g h i.2 c.pull.ensures.heavier,
     )

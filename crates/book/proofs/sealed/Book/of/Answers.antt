@@ -1,5 +1,4 @@
 use Rattle.terms.specs.Worlds.{rules_of}
-use Rattle.book.proofs.Legal.{rules_legal}
 use Rattle.book.proofs.sealed.Book.of.Goals as goal
 
 pub invariant_of-result : goal.invariant_of-result
@@ -8,5 +7,5 @@ invariant_of-result c =
     let d = rw c.as_slice.ensures.value at c.of-links.ensures in record {
       room = rw c.as_slice.ensures.value at c.as_slice.ensures.fits;
       lawful = c.requires;
-      steps = ∣ c.of-tables.ensures (rules_of rows) d (rules_legal rows c.requires) ∣₁;
+      steps = ∣ c.of-tables.ensures (rules_of rows) d ∣₁;
     }

@@ -1,7 +1,6 @@
 use Rattle.terms.specs.Worlds.{rules_of}
 use Rattle.terms.specs.Steps.{Within, AlwaysWithin}
 use Rattle.book.specs.Books.{rows_of}
-use Rattle.book.proofs.Legal.{rules_legal}
 use Rattle.book.proofs.Reading.{within_answer, within_certain, within_none}
 use Rattle.book.proofs.sealed.Book.within.Goals as goal
 
@@ -14,9 +13,9 @@ returns-then-class-ge64-clause-certain c B = within_none (AlwaysWithin (rules_of
 pub returns-clause-exact : goal.returns-clause-exact
 returns-clause-exact c B =
     let b = c.args.self.now in
-    rw c.from.ensures (within_answer (rules_of (rows_of b)) b.tables.within b.tables.leads (rules_legal (rows_of b) b.lawful) b.steps c.args.class B c.if-class-ge64.false)
+    rw c.from.ensures (within_answer b c.args.class B c.if-class-ge64.false)
 
 pub returns-clause-certain : goal.returns-clause-certain
 returns-clause-certain c B =
     let b = c.args.self.now in
-    rw c.from.ensures (within_certain (rules_of (rows_of b)) b.tables.within b.tables.leads (rules_legal (rows_of b) b.lawful) b.steps c.args.class B c.if-class-ge64.false)
+    rw c.from.ensures (within_certain b c.args.class B c.if-class-ge64.false)

@@ -2,7 +2,7 @@ use Rattle.book.proofs.Whole.{alone_sound, alone_ordered, exact}
 use Rattle.book.proofs.sealing.StepTables.of.Goals as goal
 
 pub returns : goal.returns
-returns c R d lo =
+returns c R d =
     let start = c.reflexive-within.result in
-    let ready = c.climb.ensures R d lo (alone_sound start c.reflexive-within.ensures R) (alone_ordered start c.reflexive-within.ensures) in
-    exact R lo c.settle.new.within (c.settle.ensures R d lo ready) c.args.links.now c.leads-leads.result d c.leads-leads.ensures
+    let ready = c.climb.ensures R d (alone_sound start c.reflexive-within.ensures R) (alone_ordered start c.reflexive-within.ensures) in
+    exact R d.legal c.settle.new.within (c.settle.ensures R d ready) c.args.links.now c.leads-leads.result d c.leads-leads.ensures

@@ -8,8 +8,8 @@ use Rattle.queue.specs.Lines.{waiting}
 use Rattle.search.specs.Pairs.{mark, mark_of}
 use Rattle.search.specs.Rows.{Excludes}
 use Rattle.search.specs.Search.{Hunted}
-use Rattle.search.proofs.Turns.{done_first, done_rows, done_cells, done_row, done_all, fresh_first, met_or_fresh, was_there}
-use Rattle.search.proofs.Working.{Led, taken, worked, no_path, low, pair_proper, pair_new, pair_turned, pair_struck}
+use Rattle.search.proofs.Turns.{done_first, done_rows, done_cells, done_row, done_all, fresh_first, met_or_fresh, was_there, new_pair, new_proper, turned, struck}
+use Rattle.search.proofs.Working.{Led, taken, worked, no_path, least, low, goes_on, pair}
 use Rattle.search.proofs.walk.Walk.hunt.Goals as goal
 
 pub entry-depth-requires : goal.entry-depth-requires
@@ -26,7 +26,7 @@ overflow_add-depth c =
     let T = c.search.self.trail.trace in
     let p = c.in-Some-pop.from in
     let m = taken v.parts.now v.book.now (waiting c.search.self.queue) (waiting c.pop.new.self) T p (mark_of T p) c.search.invariant.1 c.in-Some-pop.ensures.taken refl in
-    omega (arith, low v.parts.now v.book.now (waiting c.pop.new.self) T p (mark_of T p) m, ap mark c.entry-depth.ensures)
+    omega (arith, low v.parts.now v.book.now m, ap mark c.entry-depth.ensures)
 
 pub loop-letter-init : goal.loop-letter-init
 loop-letter-init c =
@@ -56,9 +56,9 @@ loop-c-init c =
     let p = c.in-Some-pop.from in
     let b = c.args.self.now.book.now in
     let f = c.loop-letter.letter in
-    let s = c.leads-left.result in
+    let s = c.into_iter-c-iterator.result.rest in
     let i = c.loop-letter.invariant in
-    let e : s ≡ leads_set b p.left f = c.leads-left.ensures.value ∙ ap (λ (y : Book). leads_set y p.left f) i.0.1 in (
+    let e : s ≡ leads_set b p.left f = c.into_iter-c-iterator.ensures.into_iter_gives ∙ c.leads-c-items.ensures.value ∙ ap (λ (y : Book). leads_set y p.left f) i.0.1 in (
       i.0,
       i.1,
       done_rows (Led b p) c.loop-letter.self.trail.trace (c.entry-depth.result.depth + 1 + 1) f s i.2 (λ k _ h. ap (λ (x : ClassSet). has x k) e ∙ h.0),
@@ -76,18 +76,18 @@ loop-d-init c =
     let T = c.loop-c.self.trail.trace in
     let n = c.entry-depth.result.depth + 1 + 1 in
     let i = c.loop-c.invariant in
-    let w = c.in-Some-take_lowest.ensures in
-    let a = c.in-Some-take_lowest.c in
+    let w = c.in-Some-c.ensures.steps in
+    let a = c.in-Some-c.c in
     let s = c.partners.result in
-    let r = c.minus-partners.result in
+    let r = c.into_iter-d-iterator.result.rest in
     let rights = leads_set b p.right f in
     let e : c.leads-right.result ≡ rights = c.leads-right.ensures.value ∙ ap (λ (y : Book). leads_set y p.right f) c.loop-letter.invariant.0.1 in
     let fits : weight s < 2 ^ 64 = omega arith in
     let fits' : weight r < 2 ^ 64 = omega arith in
-    let m : (k : ℕ) → has r k ≡ (has rights k && not (has s k)) = λ k. c.minus-partners.ensures k ∙ ap (λ (x : ClassSet). has x k && not (has s k)) e in (
+    let m : (k : ℕ) → has r k ≡ (has rights k && not (has s k)) = λ k. ap (λ (x : ClassSet). has x k) c.into_iter-d-iterator.ensures.into_iter_gives ∙ c.minus-d-items.ensures k ∙ ap (λ (x : ClassSet). has x k && not (has s k)) e in (
       i.0,
       i.1,
-      done_cells (Led b p) T n f c.loop-c.left c.take_lowest.new.self a r w i.2
+      done_cells (Led b p) T n f c.loop-c.c-iterator.rest c.next.new.self.rest a r w i.2
           (λ d h. met_or_fresh S T rights a s r c.loop-c.self.trail.partners w.low c.partners.ensures fits fits' m n i.1.met.top d h.1),
       omega arith,
       i.4,
@@ -98,36 +98,36 @@ pub meet-requires : goal.meet-requires
 meet-requires c =
     let v = c.args.self.now in
     let i = c.loop-d.invariant in
-    let w = c.in-Some-take_lowest.ensures in
-    let a = c.in-Some-take_lowest.c in record {
-      proper = pair_proper v.parts.now v.book.now (waiting c.loop-d.self.queue) c.loop-d.self.trail.trace c.in-Some-pop.from (c.entry-depth.result.depth + 1) i.1 c.loop-d.self.trail.size c.loop-letter.letter c.take_lowest.new.self a w.low (c.loop-c.invariant.5 a w.was)
-          c.loop-d.partners c.take_lowest-in-loop-d.new.self c.in-Some-take_lowest-2.d i.5 c.in-Some-take_lowest-2.ensures c.of-pair.result c.of-pair.ensures;
-      unmet = pair_new v.parts.now v.book.now (waiting c.loop-d.self.queue) c.loop-d.self.trail.trace c.in-Some-pop.from (c.entry-depth.result.depth + 1) i.1 c.loop-d.self.trail.size c.loop-letter.letter c.take_lowest.new.self a w.low (c.loop-c.invariant.5 a w.was)
-          c.loop-d.partners c.take_lowest-in-loop-d.new.self c.in-Some-take_lowest-2.d i.5 c.in-Some-take_lowest-2.ensures c.of-pair.result c.of-pair.ensures;
-    }
+    let w = c.in-Some-c.ensures.steps in
+    let t = pair v.parts.now v.book.now i.1 c.loop-d.self.trail.size c.loop-letter.letter w.low (c.loop-c.invariant.5 c.in-Some-c.c w.was) i.5 c.in-Some-d.ensures.steps c.of-pair.ensures in
+    record { proper = new_proper t; unmet = new_pair t }
 
 pub loop-d-preserved : goal.loop-d-preserved
 loop-d-preserved c =
     let v = c.args.self.now in
     let i = c.loop-d.invariant in
-    let w = c.in-Some-take_lowest.ensures in
-    let a = c.in-Some-take_lowest.c in
+    let w = c.in-Some-c.ensures.steps in
     let m = c.meet.ensures in
     let x = subst (λ (y : Book). (j : ℕ) → Excludes y j c.of-pair.result → ⊥) i.0.1 c.in_default-meet.ensures.row in
-    let n = pair_turned v.parts.now v.book.now (waiting c.loop-d.self.queue) c.loop-d.self.trail.trace c.in-Some-pop.from (c.entry-depth.result.depth + 1) i.1 c.loop-d.self.trail.size c.loop-letter.letter c.take_lowest.new.self a w.low (c.loop-c.invariant.5 a w.was)
-    c.loop-d.partners c.take_lowest-in-loop-d.new.self c.in-Some-take_lowest-2.d i.5 c.in-Some-take_lowest-2.ensures c.of-pair.result c.of-pair.ensures
-    c.meet.new.self.trail.trace m.marked (waiting c.meet.new.self.queue) m.line x i.2 in
-    ((m.same.0 ∙ i.0.0, m.same.1 ∙ i.0.1), n.1, n.0.done, omega (arith, n.0.same, i.3), i.4, n.0.fresh)
+    let t = pair v.parts.now v.book.now i.1 c.loop-d.self.trail.size c.loop-letter.letter w.low (c.loop-c.invariant.5 c.in-Some-c.c w.was) i.5 c.in-Some-d.ensures.steps c.of-pair.ensures in
+    let n = turned t m.marked (Led v.book.now c.in-Some-pop.from) c.loop-letter.letter c.next.new.self.rest m.line x i.2 in (
+      (m.same.0 ∙ i.0.0, m.same.1 ∙ i.0.1),
+      goes_on v.parts.now v.book.now i.1 n.met n.stays,
+      n.done,
+      omega (arith, n.same, i.3),
+      i.4,
+      n.fresh,
+    )
 
 pub loop-c-preserved : goal.loop-c-preserved
 loop-c-preserved c =
     let i = c.loop-d.invariant in (
       i.0,
       i.1,
-      done_row (Led c.args.self.now.book.now c.in-Some-pop.from) c.loop-d.self.trail.trace (c.entry-depth.result.depth + 1 + 1) c.loop-letter.letter c.take_lowest.new.self c.in-Some-take_lowest.c c.loop-d.partners c.in_default-take_lowest-2.ensures.0 i.2,
+      done_row (Led c.args.self.now.book.now c.in-Some-pop.from) c.loop-d.self.trail.trace (c.entry-depth.result.depth + 1 + 1) c.loop-letter.letter c.next.new.self.rest c.in-Some-c.c c.loop-d.d-iterator.rest c.in-None-d.ensures.steps.0 i.2,
       omega (arith, i.3, c.loop-c.invariant.3),
       i.4,
-      (λ k h. c.loop-c.invariant.5 k (was_there {s = c.loop-c.left} {t = c.take_lowest.new.self} k c.in-Some-take_lowest.ensures h).0),
+      (λ k h. c.loop-c.invariant.5 k (was_there {s = c.loop-c.c-iterator.rest} {t = c.next.new.self.rest} k c.in-Some-c.ensures.steps h).0),
     )
 
 pub loop-letter-preserved : goal.loop-letter-preserved
@@ -135,7 +135,7 @@ loop-letter-preserved c =
     let i = c.loop-c.invariant in (
       i.0,
       i.1,
-      done_all (Led c.args.self.now.book.now c.in-Some-pop.from) c.loop-c.self.trail.trace (c.entry-depth.result.depth + 1 + 1) c.loop-letter.letter c.loop-c.left c.in_default-take_lowest.ensures.0 i.2,
+      done_all (Led c.args.self.now.book.now c.in-Some-pop.from) c.loop-c.self.trail.trace (c.entry-depth.result.depth + 1 + 1) c.loop-letter.letter c.loop-c.c-iterator.rest c.in-None.ensures.steps.0 i.2,
       omega (arith, i.3, c.loop-letter.invariant.3),
       i.4,
     )
@@ -144,15 +144,11 @@ pub returns-in-Some-meet : goal.returns-in-Some-meet
 returns-in-Some-meet c =
     let v = c.args.self.now in
     let i = c.loop-d.invariant in
-    let w = c.in-Some-take_lowest.ensures in
-    let a = c.in-Some-take_lowest.c in
+    let w = c.in-Some-c.ensures.steps in
     let m = c.meet.ensures in
-    let x = subst (λ (y : Book). Excludes y c.in-Some-meet.row c.of-pair.result) i.0.1 c.in-Some-meet.ensures.row in record {
-      same = (m.same.0 ∙ i.0.0, m.same.1 ∙ i.0.1);
-      hunted = pair_struck v.parts.now v.book.now (waiting c.loop-d.self.queue) c.loop-d.self.trail.trace c.in-Some-pop.from (c.entry-depth.result.depth + 1) i.1 c.loop-d.self.trail.size c.loop-letter.letter c.take_lowest.new.self a w.low (c.loop-c.invariant.5 a w.was)
-          c.loop-d.partners c.take_lowest-in-loop-d.new.self c.in-Some-take_lowest-2.d i.5 c.in-Some-take_lowest-2.ensures c.of-pair.result c.of-pair.ensures
-          c.meet.new.self.trail.trace m.marked c.in-Some-meet.row x;
-    }
+    let x = subst (λ (y : Book). Excludes y c.in-Some-meet.row c.of-pair.result) i.0.1 c.in-Some-meet.ensures.row in
+    let t = pair v.parts.now v.book.now i.1 c.loop-d.self.trail.size c.loop-letter.letter w.low (c.loop-c.invariant.5 c.in-Some-c.c w.was) i.5 c.in-Some-d.ensures.steps c.of-pair.ensures in
+    record { same = (m.same.0 ∙ i.0.0, m.same.1 ∙ i.0.1); hunted = struck t m.marked c.in-Some-meet.row x (least v.parts.now v.book.now i.1) }
 
 pub returns-in_default-pop : goal.returns-in_default-pop
 returns-in_default-pop c =

@@ -1,6 +1,6 @@
 -- What the loops over waiting pairs, features, classes and partners keep.
 use Rattle.std.proofs.Common.{◌≡◌, ℕ, ◌+◌, ◌≤◌, true, length, None}
-use Rattle.classes.specs.Sets.{has, weight}
+use Rattle.classes.specs.Sets.{has}
 use Rattle.book.specs.Books.{leads_set}
 use Rattle.queue.specs.Lines.{waiting}
 use Rattle.search.specs.declared.walk.Walk.{Walk}
@@ -36,22 +36,16 @@ abbrev pub invariant-loop-c : goal.invariant-loop-c
 invariant-loop-c l =
     Same l.fn.self l.self
     × AtWork l.fn.self.parts.now l.fn.self.book.now (waiting l.self.queue) l.self.trail.trace l.from l.depth
-    × Done (Led l.fn.self.book.now l.from) (Rows l.letter l.left) l.self.trail.trace (l.depth + 1)
+    × Done (Led l.fn.self.book.now l.from) (Rows l.letter l.c-iterator.rest) l.self.trail.trace (l.depth + 1)
     × (left_of l.self ≤ left_of l.initial.self)
     × (l.found ≡ None)
-    × ((k : ℕ) → has l.left k ≡ true → Lead l.fn.self.book.now l.from.left l.letter k)
-
-abbrev pub decreases-loop-c : goal.decreases-loop-c
-decreases-loop-c l = weight l.left
+    × ((k : ℕ) → has l.c-iterator.rest k ≡ true → Lead l.fn.self.book.now l.from.left l.letter k)
 
 abbrev pub invariant-loop-d : goal.invariant-loop-d
 invariant-loop-d l =
     Same l.fn.self l.self
     × AtWork l.fn.self.parts.now l.fn.self.book.now (waiting l.self.queue) l.self.trail.trace l.from l.depth
-    × Done (Led l.fn.self.book.now l.from) (Cells l.letter l.left l.c l.partners) l.self.trail.trace (l.depth + 1)
+    × Done (Led l.fn.self.book.now l.from) (Cells l.letter l.c-iterator.rest l.c l.d-iterator.rest) l.self.trail.trace (l.depth + 1)
     × (left_of l.self ≤ left_of l.initial.self)
     × (l.found ≡ None)
-    × Fresh l.self.trail.trace (leads_set l.fn.self.book.now l.from.right l.letter) l.c l.partners
-
-abbrev pub decreases-loop-d : goal.decreases-loop-d
-decreases-loop-d l = weight l.partners
+    × Fresh l.self.trail.trace (leads_set l.fn.self.book.now l.from.right l.letter) l.c l.d-iterator.rest

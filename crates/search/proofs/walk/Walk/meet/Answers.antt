@@ -1,5 +1,5 @@
 -- The pair waits at the end of the line, since a place is left for it.
-use Rattle.std.proofs.Common.{◌≡◌, ℕ, ◌+◌, ◌<◌, ◌≤◌, ltb, List, [], ◌∷◌, ◌++◌, length, Ok, Err, Result, refl, ap, ◌∙◌, arith}
+use Rattle.std.proofs.Common.{◌≡◌, ◌+◌, ◌<◌, ◌≤◌, ltb, List, [], ◌∷◌, ◌++◌, length, Ok, Err, Result, refl, ap, ◌∙◌, arith}
 use Rattle.std.proofs.lemmas.Bool.{lt-ltb, cond-true}
 use Rattle.std.proofs.lemmas.List.{length_push}
 use Rattle.terms.specs.declared.refusal.Refusal.{Refusal}
@@ -16,7 +16,7 @@ one_more W q (Err x) = omega arith
 
 taken : (W : List ClassPair) (q : ClassPair) (r : Result (Unit {0}) Refusal) → numbered r ≡ Ok tt → lengthened r W q ≡ W ++ q ∷ []
 taken W q (Ok a) e = refl
-taken W q (Err x) e = absurd (let z : ◌≡◌ {A = ℕ} 0 1 = cc in omega arith)
+taken W q (Err x) e = cc
 
 pub invariant_of-self-clause-room : goal.invariant_of-self-clause-room
 invariant_of-self-clause-room c =

@@ -1,6 +1,6 @@
 -- What the loops over parts, classes and partners keep.
 use Rattle.std.proofs.Common.{◌≡◌, ℕ, true}
-use Rattle.classes.specs.Sets.{has, weight}
+use Rattle.classes.specs.Sets.{has}
 use Rattle.book.specs.Tables.{set_at, At}
 use Rattle.queue.specs.Lines.{waiting}
 use Rattle.search.specs.Search.{Met, Nothing, Same}
@@ -18,18 +18,12 @@ abbrev pub invariant-loop-a : goal.invariant-loop-a
 invariant-loop-a l =
     Same l.fn.self l.self
     × Met l.fn.self.parts.now l.fn.self.book.now Nothing (waiting l.self.queue) l.self.trail.trace 1
-    × Done (Sown l.fn.self.parts.now) (Rows l.part l.left) l.self.trail.trace 1
-    × ((c : ℕ) → has l.left c ≡ true → At l.fn.self.parts.now l.part c)
-
-abbrev pub decreases-loop-a : goal.decreases-loop-a
-decreases-loop-a l = weight l.left
+    × Done (Sown l.fn.self.parts.now) (Rows l.part l.a-iterator.rest) l.self.trail.trace 1
+    × ((c : ℕ) → has l.a-iterator.rest c ≡ true → At l.fn.self.parts.now l.part c)
 
 abbrev pub invariant-loop-b : goal.invariant-loop-b
 invariant-loop-b l =
     Same l.fn.self l.self
     × Met l.fn.self.parts.now l.fn.self.book.now Nothing (waiting l.self.queue) l.self.trail.trace 1
-    × Done (Sown l.fn.self.parts.now) (Cells l.part l.left l.a l.right) l.self.trail.trace 1
-    × Fresh l.self.trail.trace (set_at l.fn.self.parts.now l.part) l.a l.right
-
-abbrev pub decreases-loop-b : goal.decreases-loop-b
-decreases-loop-b l = weight l.right
+    × Done (Sown l.fn.self.parts.now) (Cells l.part l.a-iterator.rest l.a l.b-iterator.rest) l.self.trail.trace 1
+    × Fresh l.self.trail.trace (set_at l.fn.self.parts.now l.part) l.a l.b-iterator.rest
