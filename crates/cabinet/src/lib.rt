@@ -122,6 +122,7 @@ mod tests {
     use crate::shift::{begin, end, knows, note};
     use std::mem::size_of;
     use std::test::Fail;
+    use stores::calls::tell;
     use terms::kind::FactKind;
 
     // The part is in class 5. The tests of `piles` have such a helper too: one for both would be a public call that only tests use.
@@ -175,6 +176,7 @@ mod tests {
     fn the_log_comes_back_as_it_was(rt: HostRuntime) {
         let mut log = Cabinet::open(7);
         assert_eq!(rt; note(&mut log, in_class_5(3)), Ok(Told::Added));
+        assert_eq!(rt; tell(&mut log, in_class_5(3)), Ok(Told::Already));
         let (told, pile) = begin(log, in_class_5(4));
         assert_eq!(rt; told, Ok(Told::Added));
         assert_eq!(rt; pile.count(), 2);

@@ -17,11 +17,12 @@ pub struct ImageStore<'a> {
 impl<'a> ImageStore<'a> {
     ghost use Rattle.std.specs.Prelude.{◌≡◌, map};
     ghost use Rattle.image.specs.Layout.{fact_of, sound_part, sound_facts, LongestSound};
-    ghost use Rattle.image.specs.Images.{image_facts};
+    ghost use Rattle.image.specs.Images.{image_facts, image_room};
 
-    // A store that lists the facts of the sound part of the bytes.
+    // A store that lists the facts of the sound part of the bytes, and has no free place.
     pub fn open(bytes: &'a [u8]) -> ImageStore<'a>
         ensures list { image_facts result ≡ sound_facts bytes.now }
+        ensures room { image_room result ≡ 0 }
         ensures part { result.bytes.now ≡ sound_part bytes.now }
         ensures law { LongestSound bytes.now result.bytes.now (image_facts result) }
     {

@@ -1,5 +1,5 @@
 // Stores at their bounds, and piles of them.
-use crate::tell_table;
+use crate::{tell_over_table, tell_table};
 use image::sound;
 use image::store::ImageStore;
 use std::test::Fail;
@@ -83,10 +83,23 @@ fn additions_over_additions_over_rows(rt: HostRuntime) {
 }
 
 #[test]
+fn a_table_once_its_store_has_ended(rt: HostRuntime) {
+    let mut rows = [in_class(9, 9); 3];
+    let unlawful = in_class(1, 64);
+    let told = [in_class(1, 1), unlawful, in_class(2, 2), in_class(1, 1)];
+    let answer = tell_over_table(&mut rows, &told, in_class(3, 3));
+    assert_eq!(rt; answer, Ok(Told::Added));
+    assert_eq!(rt; rows, [in_class(1, 1), in_class(2, 2), in_class(9, 9)]);
+    let answer = tell_table(&mut rows, &told, in_class(2, 2));
+    assert_eq!(rt; answer, Ok(Told::Already));
+    let answer = tell_table(&mut rows, &told, in_class(3, 3));
+    assert_eq!(rt; answer, Ok(Told::Added));
+    assert_eq!(rt; rows, [in_class(1, 1), in_class(2, 2), in_class(3, 3)]);
+}
+
+#[test]
 fn a_fact_that_is_only_tried(rt: HostRuntime) {
     let mut rows = [Fact::default(); 2];
-    assert_eq!(rt; tell_table(&mut rows, in_class(1, 1)), Ok(Told::Added));
-    assert_eq!(rt; rows[0], in_class(1, 1));
     let Tried { store, answer } = try_fact(RowStore::open(&mut rows), in_class(2, 2));
     assert_eq!(rt; answer, Ok(Told::Added));
     assert_eq!(rt; store.count(), 0);
@@ -123,6 +136,22 @@ fn sound_parts(rt: HostRuntime) {
         "an unlawful fact"
     );
     assert_eq!(rt; sound(&three([0x50, 0x46, 3, 7, 8, 0])).len(), 18);
+}
+
+// What an image store over the bytes says of its end: its count, the fact at that place, and its free places.
+fn image_end(bytes: &[u8]) -> (usize, Option<Fact>, usize) {
+    let image = ImageStore::open(bytes);
+    (image.count(), image.at(image.count()), image.free())
+}
+
+#[test]
+fn image_stores(rt: HostRuntime) {
+    assert_eq!(rt; image_end(b""), (0, None, 0));
+    assert_eq!(rt; image_end(&TWO[0..11]), (1, None, 0), "a cut record");
+    let repeated = three([0x50, 0x46, 1, 7, 0, 0]);
+    assert_eq!(rt; image_end(&repeated), (2, None, 0), "a repeated record");
+    let other_mark = three([0x50, 0x53, 1, 8, 0, 0]);
+    assert_eq!(rt; image_end(&other_mark), (2, None, 0), "another mark");
 }
 
 #[test]

@@ -1,5 +1,6 @@
 -- Keeping the meaning of a store: at its opening, and where a fact is added; and what accepts a fact.
 use Rattle.std.proofs.Common.{◌≡◌, ℕ, ◌-◌, ◌<◌, ◌≤◌, Bool, true, false, cond, ◌||◌, ltb, ◌⊎◌, List, [], ◌∷◌, ◌++◌, length, Some, Ok, Err, Result, sym, refl, ap, ◌∙◌, subst, inl, inr, arith}
+use Rattle.std.specs.Prelude.{codes}
 use mathlib.Core.List.Memᴰ
 use Rattle.std.specs.List.{slice_get}
 use Rattle.std.proofs.lemmas.List.{length_push}
@@ -8,8 +9,6 @@ use Rattle.terms.specs.declared.fact.Fact.{Fact}
 use Rattle.terms.specs.Refusals.{Question, ask, asked}
 use Rattle.terms.specs.Lawful.{fact_kind_known, fact_class_low, fact_feature_low, fact_unused_zero, fact_questions, lawful_fact}
 use Rattle.terms.proofs.Asking.{all_yes, answers, asked_on}
-use Rattle.stores.specs.declared.told.Told.{Told}
-use Rattle.stores.specs.declared.told.Told.TheVariants.{Added, Already}
 use Rattle.stores.specs.Meaning.{Meaning, listed, tell_questions, accepted_as}
 use Rattle.stores.proofs.Listing.{in_listed, nth_in, nth_push}
 
@@ -69,12 +68,12 @@ module _ (facts : List Fact) (free : ℕ) (f : Fact) (q : asked (fact_questions 
   unfolding place_asked
   accepted h =
       asked_on (fact_questions f) place_asked tt (accepted_as facts f) q
-      ∙ ap (λ (x : Bool). let z : Result Told ℕ = cond x (Ok (accepted_as facts f)) (Err 6) in z) h
+      ∙ ap (λ (x : Bool). let z : Result (List ℕ) ℕ = cond x (Ok (accepted_as facts f)) (Err 6) in z) h
 
-  pub answers_already : listed facts f ≡ true → asked (tell_questions facts free f) (accepted_as facts f) ≡ Ok Already
-  answers_already l = accepted (or_left (listed facts f) (ltb 0 free) l) ∙ ap (λ (t : Told). let z : Result Told ℕ = Ok t in z) (cond-true (listed facts f) Already Added l)
+  pub answers_already : listed facts f ≡ true → asked (tell_questions facts free f) (accepted_as facts f) ≡ Ok (codes "already")
+  answers_already l = accepted (or_left (listed facts f) (ltb 0 free) l) ∙ ap (λ (w : List ℕ). let z : Result (List ℕ) ℕ = Ok w in z) (cond-true (listed facts f) (codes "already") (codes "added") l)
 
-  pub answers_added : listed facts f ≡ false → 0 < free → asked (tell_questions facts free f) (accepted_as facts f) ≡ Ok Added
+  pub answers_added : listed facts f ≡ false → 0 < free → asked (tell_questions facts free f) (accepted_as facts f) ≡ Ok (codes "added")
   answers_added l h =
       accepted (or_right (listed facts f) (ltb 0 free) (lt-ltb 0 free h))
-      ∙ ap (λ (t : Told). let z : Result Told ℕ = Ok t in z) (cond-false (listed facts f) Already Added l)
+      ∙ ap (λ (w : List ℕ). let z : Result (List ℕ) ℕ = Ok w in z) (cond-false (listed facts f) (codes "already") (codes "added") l)

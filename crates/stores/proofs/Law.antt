@@ -1,16 +1,17 @@
 -- The law of tell, from its answer and the lists before and after.
 use Rattle.std.proofs.Common.{◌≡◌, ℕ, ◌+◌, ◌-◌, ◌<◌, Bool, true, false, cond, ◌||◌, ltb, ◌⊎◌, List, [], ◌∷◌, ◌++◌, length, replicate, Some, Ok, Err, Result, sym, refl, ap, ◌∙◌, subst, inl, inr, append-nil, arith}
+use Rattle.std.specs.Prelude.{codes}
 use Rattle.std.specs.List.{slice_get}
 use Rattle.std.proofs.lemmas.Bool.{and_from, cases_Bool, or_cases, ltb-true, cond-true, cond-false, both_ways}
 use Rattle.terms.specs.declared.fact.Fact.{Fact}
 use Rattle.terms.specs.declared.refusal.Refusal.{Refusal}
-use Rattle.terms.specs.Refusals.{Question, asked, numbered}
+use Rattle.terms.specs.Refusals.{Question, asked}
 use Rattle.terms.specs.Lawful.{lawful_fact}
 use Rattle.terms.specs.Worlds.{◌∈◌}
 use Rattle.terms.proofs.Asking.{answers}
 use Rattle.stores.specs.declared.told.Told.{Told}
 use Rattle.stores.specs.declared.told.Told.TheVariants.{Added, Already}
-use Rattle.stores.specs.Meaning.{Meaning, listed, tell_questions, accepted_as, places_used, Tells, TellLaw}
+use Rattle.stores.specs.Meaning.{Meaning, listed, tell_questions, accepted_as, worded, places_used, Tells, TellLaw}
 use Rattle.stores.proofs.Listing.{listed_in, in_listed, in_nth, nth_upper}
 use Rattle.stores.proofs.Keeping.{yes_lawful, means_more, answers_already, answers_added}
 
@@ -23,46 +24,58 @@ asked_ok (q ∷ qs) x t e = by q.holds (asked_ok qs x t) e
     by true on e = on e
     by false on e = let z : ◌≡◌ {A = ℕ} 0 1 = cc in absurd (omega arith)
 
-done_is : (r : Result Told Refusal) (t : Told) → numbered r ≡ Ok t → r ≡ Ok t
-done_is (Ok s) t e = let h : s ≡ t = cc in ap (λ (x : Told). let z : Result Told Refusal = Ok x in z) h
-done_is (Err x) t e = let z : ◌≡◌ {A = ℕ} 0 1 = cc in absurd (omega arith)
+words_apart : codes "added" ≡ codes "already" → ⊥
+words_apart e = let z : ◌≡◌ {A = ℕ} 100 108 = cc in omega arith
 
-named_apart : Added ≡ Already → ⊥
-named_apart e = let z : ◌≡◌ {A = ℕ} 0 1 = cc in omega arith
+-- an answer uses a place exactly when it says "added"
+pub place_word : (r : Result Told Refusal) → places_used r ≡ 1 → worded r ≡ Ok (codes "added")
+place_word (Ok Added) u = refl
+place_word (Ok Already) u = absurd (omega arith)
+place_word (Err e) u = absurd (omega arith)
+
+pub word_place : (r : Result Told Refusal) → worded r ≡ Ok (codes "added") → places_used r ≡ 1
+word_place (Ok Added) w = refl
+word_place (Ok Already) w = let z : ◌≡◌ {A = ℕ} 100 108 = cc in absurd (omega arith)
+word_place (Err e) w = let z : ◌≡◌ {A = ℕ} 0 1 = cc in absurd (omega arith)
+
+pub place_or_none : (r : Result Told Refusal) → (places_used r ≡ 1) ⊎ (places_used r ≡ 0)
+place_or_none (Ok Added) = inl refl
+place_or_none (Ok Already) = inr refl
+place_or_none (Err e) = inr refl
 
 module _ (facts : List Fact) (free : ℕ) (f : Fact) (r : Result Told Refusal) (facts' : List Fact) (free' : ℕ)
     (m : Meaning facts free) (t : Tells facts free f r facts' free') where
   -- what an accepted fact had: its questions had yes
-  pub record Yes (s : Told) : Type 0 where
+  pub record Yes (w : List ℕ) : Type 0 where
     pub lawful : lawful_fact f ≡ true
-    pub named : s ≡ accepted_as facts f
+    pub named : w ≡ accepted_as facts f
     pub place : (listed facts f || ltb 0 free) ≡ true
 
-  yes : (s : Told) → r ≡ Ok s → Yes s
-  yes s e =
+  yes : (w : List ℕ) → worded r ≡ Ok w → Yes w
+  yes w e =
       let x = accepted_as facts f in
-      let q : asked (tell_questions facts free f) x ≡ Ok s = sym t.answer ∙ ap numbered e in
-      let h = asked_ok (tell_questions facts free f) x s q in
-      let a = (answers x (tell_questions facts free f) (asked (tell_questions facts free f) x) refl).accepted.0 (q ∙ ap (λ (y : Told). let z : Result Told ℕ = Ok y in z) h) in
+      let q : asked (tell_questions facts free f) x ≡ Ok w = sym t.answer ∙ e in
+      let h = asked_ok (tell_questions facts free f) x w q in
+      let a = (answers x (tell_questions facts free f) (asked (tell_questions facts free f) x) refl).accepted.0 (q ∙ ap (λ (y : List ℕ). let z : Result (List ℕ) ℕ = Ok y in z) h) in
       record { lawful = and_from _ _ a.0 (and_from _ _ a.1.0 (and_from _ _ a.1.1.0 a.1.1.1.0)); named = h; place = a.1.1.1.1.0 }
 
-  was_listed : r ≡ Ok Already → listed facts f ≡ true
+  was_listed : worded r ≡ Ok (codes "already") → listed facts f ≡ true
   was_listed e = by (cases_Bool (listed facts f))
     where
       by : (listed facts f ≡ true) ⊎ (listed facts f ≡ false) → listed facts f ≡ true
       by (inl h) = h
-      by (inr h) = absurd (named_apart (sym ((yes Already e).named ∙ cond-false (listed facts f) Already Added h)))
+      by (inr h) = absurd (words_apart (sym ((yes (codes "already") e).named ∙ cond-false (listed facts f) (codes "already") (codes "added") h)))
 
-  was_not : r ≡ Ok Added → listed facts f ≡ false
+  was_not : worded r ≡ Ok (codes "added") → listed facts f ≡ false
   was_not e = by (cases_Bool (listed facts f))
     where
       by : (listed facts f ≡ true) ⊎ (listed facts f ≡ false) → listed facts f ≡ false
-      by (inl h) = absurd (named_apart ((yes Added e).named ∙ cond-true (listed facts f) Already Added h))
+      by (inl h) = absurd (words_apart ((yes (codes "added") e).named ∙ cond-true (listed facts f) (codes "already") (codes "added") h))
       by (inr h) = h
 
-  was_free : r ≡ Ok Added → 0 < free
+  was_free : worded r ≡ Ok (codes "added") → 0 < free
   was_free e =
-      elim (or_cases (listed facts f) (ltb 0 free) (yes Added e).place) [
+      elim (or_cases (listed facts f) (ltb 0 free) (yes (codes "added") e).place) [
         | inl h ↦ absurd (both_ways (listed facts f) (was_not e) h)
         | inr h ↦ ltb-true 0 free h
       ]
@@ -70,44 +83,42 @@ module _ (facts : List Fact) (free : ℕ) (f : Fact) (r : Result Told Refusal) (
   kept : places_used r ≡ 0 → (facts' ≡ facts) × (free' ≡ free)
   kept u = let l = t.left in (t.list ∙ ap (λ (n : ℕ). facts ++ replicate n f) u ∙ append-nil facts, omega arith)
 
-  grown_by : r ≡ Ok Added → (facts' ≡ facts ++ f ∷ []) × (free ≡ free' + 1)
-  grown_by e =
-      let u : places_used r ≡ 1 = ap places_used e in
+  grown_by : places_used r ≡ 1 → (facts' ≡ facts ++ f ∷ []) × (free ≡ free' + 1)
+  grown_by u =
       let l = t.left in
-      let k = was_free e in
+      let k = was_free (place_word r u) in
       (t.list ∙ ap (λ (n : ℕ). facts ++ replicate n f) u, omega arith)
+
+  -- one more fact keeps the meaning
+  more : worded r ≡ Ok (codes "added") → Meaning (facts ++ f ∷ []) (free - 1)
+  more w = means_more facts free f m (yes_lawful f (yes (codes "added") w).lawful) (was_not w) (was_free w)
 
   once_by : (s : Told) → r ≡ Ok s → (place : ℕ) × (slice_get facts' place ≡ Some f) × ((k : ℕ) → slice_get facts' k ≡ Some f → k ≡ place)
   once_by Already e =
-      let p = in_nth facts f (listed_in facts f (was_listed e)) in
+      let p = in_nth facts f (listed_in facts f (was_listed (ap worded e))) in
       let h = (kept (ap places_used e)).0 in
       subst (λ (l : List Fact). (place : ℕ) × (slice_get l place ≡ Some f) × ((k : ℕ) → slice_get l k ≡ Some f → k ≡ place)) (sym h) (p.0, p.1, λ k x. m.different k p.0 f x p.1)
   once_by Added e =
-      let h = (grown_by e).0 in
-      let d = means_more facts free f m (yes_lawful f (yes Added e).lawful) (was_not e) (was_free e) in
+      let h = (grown_by (ap places_used e)).0 in
+      let d = more (ap worded e) in
       let z : length facts - length facts ≡ 0 = omega arith in
       let x : slice_get (facts ++ f ∷ []) (length facts) ≡ Some f = nth_upper facts (f ∷ []) (length facts) (omega arith) ∙ ap (slice_get (f ∷ [])) z in
       subst (λ (l : List Fact). (place : ℕ) × (slice_get l place ≡ Some f) × ((k : ℕ) → slice_get l k ≡ Some f → k ≡ place)) (sym h) (length facts, x, λ k y. d.different k (length facts) f y x)
 
-  none_used : (s : Result Told Refusal) → ¬ (s ≡ Ok Added) → places_used s ≡ 0
-  none_used (Ok Added) n = absurd (n refl)
-  none_used (Ok Already) n = refl
-  none_used (Err e) n = refl
-
   pub tell_law : TellLaw facts free f r facts' free'
   tell_law = record {
     already = (
-      λ e. ((yes Already e).lawful, listed_in facts f (was_listed e)),
-      λ h. done_is r Already (t.answer ∙ answers_already facts free f (yes_lawful f h.0) (in_listed facts f h.1)),
+      λ e. ((yes (codes "already") e).lawful, listed_in facts f (was_listed e)),
+      λ h. t.answer ∙ answers_already facts free f (yes_lawful f h.0) (in_listed facts f h.1),
     );
     added = (
-      λ e. ((yes Added e).lawful, (λ i. both_ways (listed facts f) (was_not e) (in_listed facts f i)), was_free e),
-      λ h. done_is r Added (t.answer ∙ answers_added facts free f (yes_lawful f h.0) (unlisted h.1) h.2),
+      λ e. ((yes (codes "added") e).lawful, (λ i. both_ways (listed facts f) (was_not e) (in_listed facts f i)), was_free e),
+      λ h. t.answer ∙ answers_added facts free f (yes_lawful f h.0) (unlisted h.1) h.2,
     );
-    refused = (answers (accepted_as facts f) (tell_questions facts free f) (numbered r) t.answer).refused;
+    refused = (answers (accepted_as facts f) (tell_questions facts free f) (worded r) t.answer).refused;
     once = once_by;
     grown = grown_by;
-    same = λ n. kept (none_used r n);
+    same = kept;
   }
     where
       unlisted : ¬ (f ∈ facts) → listed facts f ≡ false
@@ -122,8 +133,8 @@ module _ (facts : List Fact) (free : ℕ) (f : Fact) (r : Result Told Refusal) (
 
       by : (s : Result Told Refusal) → r ≡ s → Meaning facts' free'
       by (Ok Added) e =
-          let k = grown_by e in
+          let k = grown_by (ap places_used e) in
           let less : free' ≡ free - 1 = (let h = k.1 in omega arith) in
-          rw (k.0, less) (means_more facts free f m (yes_lawful f (yes Added e).lawful) (was_not e) (was_free e))
+          rw (k.0, less) (more (ap worded e))
       by (Ok Already) e = kept_by (ap places_used e)
       by (Err x) e = kept_by (ap places_used e)

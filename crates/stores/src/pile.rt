@@ -1,7 +1,7 @@
 // Piles that are put together and taken apart over any store.
 ghost use Rattle.std.specs.Prelude.{◌≡◌, length};
-ghost use Rattle.terms.specs.Refusals.{asked, numbered};
-ghost use Rattle.stores.specs.Meaning.{tell_questions, accepted_as};
+ghost use Rattle.terms.specs.Refusals.{asked};
+ghost use Rattle.stores.specs.Meaning.{worded, tell_questions, accepted_as};
 ghost use Rattle.stores.specs.Piles.{free_over, pile_facts, pile_room, PileValid};
 
 use crate::additions::Additions;
@@ -20,7 +20,7 @@ pub struct Tried<S> {
 pub fn try_fact<S: Store>(store: S, fact: Fact) -> Tried<S>
     requires { S.Store.valid store }
     ensures back { result.store ≡ store }
-    ensures answer { numbered result.answer ≡ asked (tell_questions (S.Store.facts store) (free_over 0 (length (S.Store.facts store))) fact) (accepted_as (S.Store.facts store) fact) }
+    ensures answer { worded result.answer ≡ asked (tell_questions (S.Store.facts store) (free_over 0 (length (S.Store.facts store))) fact) (accepted_as (S.Store.facts store) fact) }
 {
     let mut pile = Additions::over(store);
     let answer = pile.tell(fact);

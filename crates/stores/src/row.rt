@@ -38,6 +38,15 @@ impl<'a> RowStore<'a> {
         RowStore { rows, used: 0 }
     }
 
+    // Ends the store and hands the caller's table back, as the store left it.
+    pub fn into_rows(self) -> &'a mut [Fact]
+        ensures held { result.now ≡ self.entry.rows.now }
+        ensures lent { result.ghost_name ≡ self.entry.rows.ghost_name }
+    {
+        let RowStore { rows, used: _ } = self;
+        rows
+    }
+
     // Copies are compared, since `contains` compares through references, which costs more in the hottest loop of a store.
     fn lists(&self, fact: Fact) -> bool
         ensures { result ≡ listed (row_facts self.now) fact }

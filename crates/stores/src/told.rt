@@ -1,7 +1,7 @@
 // How a fact was accepted, and what a store answers to a fact.
-ghost use Rattle.std.specs.Prelude.{◌≡◌, ◌<◌, Some, Ok};
-ghost use Rattle.terms.specs.Refusals.{asked, numbered};
-ghost use Rattle.stores.specs.Meaning.{saying, answer_questions, answer_accepted};
+ghost use Rattle.std.specs.Prelude.{◌≡◌, ◌≤◌, Some};
+ghost use Rattle.terms.specs.Refusals.{asked};
+ghost use Rattle.stores.specs.Meaning.{saying, worded, places_used, answer_questions, answer_accepted};
 
 use std::fmt;
 use terms::fact::Fact;
@@ -37,8 +37,8 @@ impl fmt::Display for Told {
 // What a store answers to a fact, by whether it lists the fact and how many places are free. A make's own `tell` asks it,
 // and writes the fact where the answer is `Added`; that is all that the `tell`s share, since each has clauses of its own.
 pub fn answer(fact: Fact, listed: bool, free: usize) -> Result<Told, Refusal>
-    ensures answer { numbered result ≡ asked (answer_questions listed free fact) (answer_accepted listed) }
-    ensures place { result ≡ Ok Told.Added → 0 < free }
+    ensures answer { worded result ≡ asked (answer_questions listed free fact) (answer_accepted listed) }
+    ensures place { places_used result ≤ free }
 {
     fact.check()?;
     if listed {

@@ -1,15 +1,14 @@
-use Rattle.std.proofs.Common.{List, ◌++◌, drop, ap, ◌∙◌, rules}
-use Rattle.terms.specs.declared.fact.Fact.{Fact}
-use Rattle.stores.specs.Rows.{row_facts, row_room}
-use Rattle.piles.proofs.Telling.{told_table}
+use Rattle.std.proofs.Common.{◌∙◌, rules}
+use Rattle.piles.proofs.Telling.{Filled, filled_more}
 use Rattle.piles.proofs.tell_table.Goals as goal
 
 pub returns-clause-table : goal.returns-clause-table
 returns-clause-table c =
-    let o = c.open-store in
-    let s = c.tell.new.self in
+    let rows = c.args.rows.now in
+    let s = c.tell_all-store in
     let t = c.tell.ensures in
-    let table = t.table ∙ ap (λ (l : List Fact). row_facts s ++ drop s.used l) o.ensures.held in
-    let lent = t.lent ∙ o.ensures.lent in
-    let e = told_table _ _ _ _ _ (row_room s) c.args.fact c.tell.result o.ensures.empty o.ensures.room o.result.valid.means t.tells table s.valid.within in
-    search (rules, lent, e)
+    let start : Filled rows _ s.result = record { list = s.ensures.list; room = s.ensures.room; table = s.ensures.held } in
+    let more = filled_more rows _ s.result c.tell.new.self _ _ start t.tells t.table in
+    let table = more.table in
+    let lent = t.lent ∙ s.ensures.lent in
+    search (rules, lent, table)

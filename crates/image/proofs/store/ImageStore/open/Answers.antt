@@ -9,9 +9,11 @@ invariant_of-result c =
     let part = c.sound.result.now in
     record { valid = subst (Sound part) (sym (part_facts c.args.bytes.now part c.sound.ensures.part)) c.sound.ensures.law.sound }
 
-pub returns : goal.returns
-returns c =
+pub returns-clause-list : goal.returns-clause-list
+returns-clause-list c = part_facts c.args.bytes.now c.sound.result.now c.sound.ensures.part
+
+pub returns-clause-law : goal.returns-clause-law
+returns-clause-law c =
     let bytes = c.args.bytes.now in
     let part = c.sound.result.now in
-    let e = part_facts bytes part c.sound.ensures.part in
-    record { list = e; part = c.sound.ensures.part; law = subst (λ (x : List Fact). LongestSound bytes part x) (sym e) c.sound.ensures.law }
+    subst (λ (x : List Fact). LongestSound bytes part x) (sym (part_facts bytes part c.sound.ensures.part)) c.sound.ensures.law
