@@ -21,7 +21,7 @@ use Rattle.theory.proofs.Clashes.{path_clash, least_path, no_path}
 use Rattle.book.specs.declared.sealed.Book.{Book}
 use Rattle.book.specs.Books.{rows_of, steps_of}
 use Rattle.book.specs.Tables.{At, Steps, set_at}
-use Rattle.book.proofs.Gathering.{not_in_none}
+use Rattle.classes.proofs.Members.{not_in_none}
 use Rattle.search.specs.declared.Found.{Found}
 use Rattle.search.specs.Graph.{Answer, Lead, Reaches, Way, stay, go}
 use Rattle.search.proofs.Ways.{legal, way_to, way_from}

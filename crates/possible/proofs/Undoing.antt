@@ -18,39 +18,13 @@ use Rattle.book.specs.Books.{rows_of, within_set}
 use Rattle.book.specs.Tables.{set_at, At, Steps}
 use Rattle.book.proofs.Legal.{rules_legal}
 use Rattle.book.proofs.Reading.{legal_rules, decided}
-use Rattle.search.specs.Graph.{Lead, Way, stay, go, Reaches}
+use Rattle.search.specs.Graph.{Reaches}
+use Rattle.search.proofs.Ways.{legal, way_to, way_from}
 use Rattle.classes.proofs.Members.{not_in_none}
 use Rattle.possible.specs.Questions.{Lone}
 
 module _ (b : Book) where
-  legal : RulesLegal (rules_of (rows_of b))
-  legal = rules_legal (rows_of b) b.lawful
-
   module _ (t : Steps (rules_of (rows_of b)) b.tables.within b.tables.leads) where
-    lead_to : {A f B : ℕ} → Leads (rules_of (rows_of b)) A f B → Lead b A f B
-    lead_to {A} {f} {B} l =
-        let r = leads_range legal l in
-        ap (λ (s : ClassSet). has s B) (cond-true _ _ none (and_from _ _ (lt-ltb _ _ r.0) (lt-ltb _ _ r.1)))
-        ∙ (t.leads_is A f B r.0 r.1).1 l
-
-    lead_from : {A f B : ℕ} → Lead b A f B → Leads (rules_of (rows_of b)) A f B
-    lead_from {A} {f} {B} h =
-        elim (cases_Bool (ltb A 64 && ltb f 16)) [
-          | inl e ↦
-              let p = and_parts _ _ e in
-              (t.leads_is A f B (ltb-true _ _ p.0) (ltb-true _ _ p.1)).0
-              (ap (λ (s : ClassSet). has s B) (sym (cond-true _ _ none e)) ∙ h)
-          | inr e ↦ not_in_none B (ap (λ (s : ClassSet). has s B) (sym (cond-false _ _ none e)) ∙ h)
-        ]
-
-    way_to : {A B : ℕ} {w : List ℕ} → paths.Way (rules_of (rows_of b)) A w B → Way b A w B
-    way_to paths.stay = stay
-    way_to (paths.go l s) = go (lead_to l) (way_to s)
-
-    way_from : {A B : ℕ} {w : List ℕ} → Way b A w B → paths.Way (rules_of (rows_of b)) A w B
-    way_from stay = paths.stay
-    way_from (go l s) = paths.go (lead_from l) (way_from s)
-
     module _ (A : ℕ) (low : A < 64) (P : List ClassSet) (lone : Lone (within_set b A) P) where
       its : within_set b A ≡ set_at b.tables.within A
       its = cond-true _ (set_at b.tables.within A) none (lt-ltb _ _ low)
@@ -70,8 +44,8 @@ module _ (b : Book) where
         from_right = u.second;
         in_left = in_to u.in_first;
         in_right = in_to u.in_second;
-        way_left = way_to u.way_left;
-        way_right = way_to u.way_right;
+        way_left = way_to b t u.way_left;
+        way_right = way_to b t u.way_right;
         row = u.row;
       }
 
@@ -85,8 +59,8 @@ module _ (b : Book) where
         right = r.right;
         in_first = in_from p r.in_left;
         in_second = in_from p r.in_right;
-        way_left = way_from r.way_left;
-        way_right = way_from r.way_right;
+        way_left = way_from b t r.way_left;
+        way_right = way_from b t r.way_right;
         row = r.row;
       }
 
@@ -94,9 +68,9 @@ module _ (b : Book) where
     pub no_path_possible : ((p : ℕ) (w : List ℕ) (i : ℕ) → Reaches P b p w i → ⊥) → Possible (rules_of (rows_of b)) A
     no_path_possible n =
         ∥∥₁_elim b.steps ∥∥₁_prop
-        (λ t. (possible_by_search _ _ _ (legal_rules legal) (decided legal t) A).1 (λ u. n 0 u.word u.rule (undone_reaches t A low P lone u)))
+        (λ t. (possible_by_search _ _ _ (legal_rules (legal b)) (decided (legal b) t) A).1 (λ u. n 0 u.word u.rule (undone_reaches t A low P lone u)))
 
     pub path_impossible : {p : ℕ} {w : List ℕ} {i : ℕ} → Reaches P b p w i → Possible (rules_of (rows_of b)) A → ⊥
     path_impossible r k =
         ∥∥₁_elim b.steps ⊥_prop
-        (λ t. (possible_by_search _ _ _ (legal_rules legal) (decided legal t) A).0 k (reaches_undone t A low P lone r))
+        (λ t. (possible_by_search _ _ _ (legal_rules (legal b)) (decided (legal b) t) A).0 k (reaches_undone t A low P lone r))

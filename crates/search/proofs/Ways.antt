@@ -12,7 +12,7 @@ use Rattle.book.specs.declared.sealed.Book.{Book}
 use Rattle.book.specs.Books.{rows_of}
 use Rattle.book.specs.Tables.{Steps}
 use Rattle.book.proofs.Legal.{rules_legal}
-use Rattle.book.proofs.Gathering.{not_in_none}
+use Rattle.classes.proofs.Members.{not_in_none}
 use Rattle.search.specs.Graph.{Lead, Way, stay, go}
 
 module _ (b : Book) where

@@ -7,7 +7,7 @@ use Rattle.terms.specs.Completed.{told, same}
 use Rattle.theory.specs.Tables.{Exact}
 use Rattle.book.specs.declared.sealed.Book.{Book}
 use Rattle.book.specs.Books.{rows_of, steps_of}
-use Rattle.book.proofs.Gathering.{not_in_none}
+use Rattle.classes.proofs.Members.{not_in_none}
 use Rattle.completion.specs.declared.record.PartRecord.{PartRecord}
 use Rattle.completion.specs.declared.growth.Growth.{Growth}
 use Rattle.completion.specs.Records.{Right, RightOf, Says}
