@@ -1,0 +1,5 @@
+// Any list of calls on a book, a store and a sheet, and the law that every such list keeps.
+#![tactic(auto)]
+
+pub mod call;
+pub mod running;
