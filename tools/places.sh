@@ -1,7 +1,10 @@
 #!/bin/sh
-# Prints the lines of src/ in which a place of one of the points of docs/DESIGN-PASS.md may stand, or how many there are.
+# Prints the lines of src/ of the crates that were rewritten in which a place of one of the points of docs/DESIGN-PASS.md may stand, or how many there are.
 # Usage, at the top of the repository: sh tools/places.sh [POINT]
-src='crates/*/src'
+# the crates that were rewritten
+names='bounds book cabinet classes classify costs image listing piles possible queue records search stores terms theory'
+src=$(for name in $names; do echo "crates/$name/src"; done)
+proofs=$(for name in $names; do echo "crates/$name/proofs"; done)
 look() { grep -rnE "$1" $src --include=*.rt; }
 point() {
     case $1 in
@@ -12,7 +15,7 @@ point() {
     5) look 'requires .*\{' ; look 'ensures (valid|sound|same|begun|heavier) \{|→ RulesLegal ' ; look '(pairs|parts): &mut \[' ; look '(queue|trail|links|heap|out|pairs|book): &?(mut )?[A-Z'"'"']|within: &mut' ;;
     6) look ': \[[A-Za-z]+(<[A-Za-z]+>)?; [0-9]+\],$|: ArrayVec<|: &.a (mut )?\[[A-Za-z0-9]+\],$|\b(6|10|64|65) \* ' ;;
     7) look 'match .*(as_str|kind)|\bfn\(|\bdyn |impl Fn|: Fn(Mut|Once)?\(' ;;
-    8) find crates/*/proofs -name '*.antt' | xargs wc -l | tail -1 ;;
+    8) find $proofs -name '*.antt' | xargs wc -l | tail -1 ;;
     esac
 }
 if [ $# -eq 1 ]; then point "$1"; exit; fi
