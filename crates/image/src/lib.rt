@@ -9,7 +9,7 @@ use terms::fact::Fact;
 
 pub mod store;
 
-// The fact of a record, by its bytes.
+// The fact of a record, by its bytes. No `From`, since the layout is this crate's and the type is that of `terms`.
 pub fn decode(bytes: &[u8; 6]) -> Fact
     ensures { result ≡ fact_of bytes.now }
 {
@@ -39,6 +39,7 @@ fn is_good(bytes: &[u8; 6], before: &[[u8; 6]]) -> bool
 
 // The longest front part of the bytes that is whole, lawful factory records, no fact twice, at most 65,536: it ends before
 // the first record that is cut short, has another mark, is unlawful or repeats a fact.
+// It is cut from the caller's bytes, and not put together from records: a form that the project keeps (docs/DECISIONS.md).
 pub fn sound(bytes: &[u8]) -> &[u8]
     ensures part { result.now ≡ sound_part bytes.now }
     ensures law { LongestSound bytes.now result.now (sound_facts bytes.now) }

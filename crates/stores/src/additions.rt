@@ -11,7 +11,8 @@ use terms::fact::Fact;
 use terms::refusal::Refusal;
 
 // The lower store, which nobody else can tell while it is taken over, and the facts of its own.
-// A store's states need not be a proposition, so no ghost field can hold those of the store below: they stand in `valid`.
+// A ghost field could hold only that the store below is in one of its states, `∥ .. ∥₁`, and its calls ask for the state
+// itself: it stands in `valid`.
 #[derive(Drop)]
 pub struct Additions<S> {
     below: S,

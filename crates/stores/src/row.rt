@@ -15,7 +15,8 @@ pub struct RowStore<'a> {
     pub ghost valid: { RowsValid rows.now used },
 }
 
-// Writes a fact into its row.
+// Writes a fact into its row: one function takes the table whole and does the writing, a form that the project keeps
+// (docs/DECISIONS.md).
 fn put(rows: &mut [Fact], row: usize, fact: Fact)
     requires { row < length rows.old }
     ensures { rows.new ≡ slice_set rows.old row fact }

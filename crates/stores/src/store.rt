@@ -32,7 +32,8 @@ pub trait Store {
         requires { valid self.now }
         ensures { result ≡ room self.now };
 
-    // The fact at a place counted from 0, or nothing past the end.
+    // The fact at a place counted from 0, or nothing past the end; that it is an Option is a form that the project keeps
+    // (docs/DECISIONS.md).
     fn at(&self, place: usize) -> Option<Fact>
         requires { valid self.now }
         ensures { result ≡ slice_get (facts self.now) place };
