@@ -32,7 +32,8 @@ pub record Law (R : List Rule) (first : List Fact) (calls : List Event) : Type 0
   pub judged : (before rest : List Event) (m n : ℕ) (v : Verdict) → calls ≡ before ++ (judge m n (Ok v) ∷ rest)
       → (v ≡ Stands) ↔ ∥ ((W : World) × KeepsBook R (claims_before first before) W) ∥₁
   -- member and same, where they are not refused, speak of the last judging that was not refused, which answered stands, and
-  -- say yes exactly when it is true in every world that keeps every rule and all facts that the store held then
+  -- say yes exactly when it is true in every world that keeps every rule and all facts that the store held then; a part's
+  -- number is below 256
   pub member_asked : (earlier rest : List Event) (p : ℕ) (w : List ℕ) (A : ℕ) (b : Bool) → calls ≡ earlier ++ (member p w A (Ok b) ∷ rest)
       → (before : List Event) × LastJudged before Stands earlier × ((b ≡ true) ↔ CertainMember R (claims_before first before) p w A)
   pub same_asked : (earlier rest : List Event) (p q : ℕ) (b : Bool) → p < 256 → q < 256 → calls ≡ earlier ++ (same p q (Ok b) ∷ rest)

@@ -1,4 +1,6 @@
 // Calls on a book, a store and a sheet, with what is lent to them, and their answers.
+ghost use Rattle.std.specs.Prelude.{◌≡◌};
+
 use judge::verdict::Verdict;
 use search::ClassPair;
 use stores::told::Told;
@@ -45,4 +47,14 @@ pub enum Answer {
 pub struct Entry<'a, 'b> {
     pub call: Call<'a, 'b>,
     pub answer: Option<Answer>,
+}
+
+impl<'a, 'b> Entry<'a, 'b> {
+    // A call that is not made yet.
+    pub fn new(call: Call<'a, 'b>) -> Entry<'a, 'b>
+        ensures call { result.call ≡ call.entry }
+        ensures answer { result.answer ≡ None }
+    {
+        Entry { call, answer: None }
+    }
 }

@@ -3,3 +3,5 @@
 
 pub mod call;
 pub mod running;
+#[cfg(test)]
+mod tests;
