@@ -1,5 +1,7 @@
 -- What it is that the rules add nothing to the records; no public call cites this file.
-use Rattle.std.specs.Prelude.{◌≡◌, ℕ, ◌<◌, List, [], length, Some, slice_index_or}
+use Rattle.std.specs.Prelude.{◌≡◌, ℕ, ◌+◌, ◌*◌, ◌<◌, true, List, [], length, Some, slice_index_or}
+use Rattle.classes.specs.declared.ClassSet.{ClassSet}
+use Rattle.classes.specs.Sets.{has}
 use Rattle.terms.specs.declared.row.Row.{Row}
 use Rattle.terms.specs.Worlds.{Rule, rules_of}
 use Rattle.book.specs.Tables.{At, table_at, Steps}
@@ -7,6 +9,8 @@ use Rattle.book.specs.Books.{rows_of, steps_of}
 use Rattle.book.specs.Sealing.{Direct, links_by}
 use Rattle.completion.specs.declared.record.PartRecord.{PartRecord}
 use Rattle.completion.specs.declared.rules.Rules.{Rules}
+use Rattle.completion.specs.declared.index.Index.{Index}
+use Rattle.completion.specs.PartSets.{Lists}
 use Rattle.completion.specs.Records.{Agree, Has, key_features, leader_of, part_at, value_by}
 
 -- the rows and the rules of the book
@@ -51,8 +55,17 @@ pub record Visited (r : Rules) (ps : List PartRecord) (p : ℕ) : Type 0 where
 abbrev pub Keyed : Row → List PartRecord → ℕ → ℕ → Type 0
 Keyed row ps p q = Has (part_at ps p) row.left → Has (part_at ps q) row.right → Agree (key_features row) (part_at ps p) (part_at ps q) → leader_of ps p ≡ leader_of ps q
 
+-- nor at p and the places of a set in a block of 64 parts
+abbrev pub KeyedIn : Row → List PartRecord → ℕ → ℕ → ClassSet → Type 0
+KeyedIn row ps p block set = (k : ℕ) → has set k ≡ true → Keyed row ps p (64 * block + k)
+
+-- nor at two parts that are their own leaders
 abbrev pub KeyedBy : Row → List PartRecord → Type 0
-KeyedBy row ps = (p q : ℕ) → p < 256 → q < 256 → Keyed row ps p q
+KeyedBy row ps = (p q : ℕ) → p < 256 → q < 256 → leader_of ps p ≡ p → leader_of ps q ≡ q → Keyed row ps p q
+
+-- nor at p and another, where the index lists the parts
+abbrev pub KeyedFrom : Row → Index → List PartRecord → ℕ → Type 0
+KeyedFrom row x ps p = Lists ps x → (q : ℕ) → q < 256 → leader_of ps p ≡ p → leader_of ps q ≡ q → Keyed row ps p q
 
 -- no rule adds anything
 pub record Settled (r : Rules) (ps : List PartRecord) : Type 0 where

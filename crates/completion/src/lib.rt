@@ -3,6 +3,8 @@
 
 pub mod complete;
 mod growth;
+mod index;
+mod part_set;
 pub mod record;
 mod rules;
 mod told;
