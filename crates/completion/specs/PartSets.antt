@@ -1,5 +1,6 @@
 -- Sets of parts, and what an index of the records holds; no public call cites this file.
 use Rattle.std.specs.Prelude.{◌≡◌, ℕ, ◌<◌, ◌/◌, ◌%◌, true, List, [], Some, slice_index_or}
+use Rattle.classes.specs.declared.ClassSet.{ClassSet}
 use Rattle.classes.specs.Sets.{has}
 use Rattle.book.specs.Tables.{set_at}
 use Rattle.completion.specs.declared.part_set.PartSet.{PartSet}
@@ -7,9 +8,13 @@ use Rattle.completion.specs.declared.record.PartRecord.{PartRecord}
 use Rattle.completion.specs.declared.index.Index.{Index}
 use Rattle.completion.specs.Records.{Has, leader_of, part_at, value_by}
 
+-- a block of 64 parts
+abbrev pub block_at : PartSet → ℕ → ClassSet
+block_at s b = set_at s.blocks b
+
 -- the part is in the set
 abbrev pub In : PartSet → ℕ → Type 0
-In s q = has (set_at s.blocks (q / 64)) (q % 64) ≡ true
+In s q = has (block_at s (q / 64)) (q % 64) ≡ true
 
 -- the set at a place
 abbrev pub parts_at : List PartSet → ℕ → PartSet

@@ -7,5 +7,6 @@ mod index;
 mod part_set;
 pub mod record;
 mod rules;
+mod sweeping;
 mod told;
 mod waiting;

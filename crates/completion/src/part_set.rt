@@ -40,4 +40,27 @@ impl PartSet {
             blocks: [both(a, e), both(b, f), both(c, g), both(d, h)],
         }
     }
+
+    pub(crate) fn union(self, other: PartSet) -> PartSet {
+        let [a, b, c, d] = self.blocks;
+        let [e, f, g, h] = other.blocks;
+        PartSet {
+            blocks: [a.union(e), b.union(f), c.union(g), d.union(h)],
+        }
+    }
+
+    // How many parts are in the set.
+    pub(crate) fn count(self) -> usize {
+        let mut count = 0usize;
+        for part in 0..=255u8 {
+            if self.has(part) {
+                count = count.wrapping_add(1);
+            }
+        }
+        count
+    }
+
+    fn has(self, part: u8) -> bool {
+        self.blocks[usize::from(part / 64)].has(part % 64)
+    }
 }

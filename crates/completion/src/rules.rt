@@ -59,7 +59,7 @@ impl<'a> Rules<'a> {
     }
 
     // The classes that those of the set are pulled back to along the feature.
-    fn pulled(&self, feature: u8, set: ClassSet) -> ClassSet
+    pub(crate) fn pulled(&self, feature: u8, set: ClassSet) -> ClassSet
         requires { feature < 16 }
         ensures { Gathered (links_by self.now.links feature).behind set result }
     {
@@ -83,7 +83,7 @@ impl<'a> Growth<'a> {
     ghost use Rattle.completion.specs.Closed.{Meant, Handed, Climbed, Followed, Visited, Keyed, KeyedBy, KeyedFrom, KeyedIn, rules_in, row_at, key_rows};
 
     // A part that is one object with a lower one hands its classes and values over to it.
-    fn hand_over(&mut self, part: u8)
+    pub(crate) fn hand_over(&mut self, part: u8)
         ensures went { Went self.old self.new }
         ensures closed { self.new.waiting.grown ≡ false → Handed self.new.parts part }
         ensures right { (R : List Rule) (F : List Claim) → Right R F self.old.parts → Right R F self.new.parts }
@@ -109,7 +109,7 @@ impl<'a> Growth<'a> {
     }
 
     // The value of the part by the feature is in the classes that the part's lead to, and the part in those that are pulled back.
-    fn follow(&mut self, rules: &Rules, part: u8, feature: u8)
+    pub(crate) fn follow(&mut self, rules: &Rules, part: u8, feature: u8)
         requires { feature < 16 }
         ensures went { Went self.old self.new }
         ensures closed { self.new.waiting.grown ≡ false → Followed rules.now self.new.parts part feature }
@@ -138,7 +138,7 @@ impl<'a> Growth<'a> {
     }
 
     // Where the two parts are in the classes of the key and agree on its features, they are one object.
-    fn key(&mut self, row: Row, p: u8, q: u8)
+    pub(crate) fn key(&mut self, row: Row, p: u8, q: u8)
         requires { lawful row ≡ true }
         ensures went { Went self.old self.new }
         ensures closed { self.new.waiting.grown ≡ false → Keyed row self.new.parts p q }
