@@ -32,7 +32,7 @@ feature_from r k (suc n) f m =
       | inr t ↦ let j = feature_from r (suc k) n f t in (j.0, omega arith, omega arith, j.3)
     ]
 
-feature_in : (r : Row) (k n j : ℕ) → k ≤ j → j < k + n → feature_at r j ∈ features_from r k n
+pub feature_in : (r : Row) (k n j : ℕ) → k ≤ j → j < k + n → feature_at r j ∈ features_from r k n
 feature_in r k zero j a b = absurd (omega arith)
 feature_in r k (suc n) j a b =
     elim (cases_eq j k) [

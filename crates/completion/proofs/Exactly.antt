@@ -149,7 +149,7 @@ module _ (r : Rules) (F : List Claim) (ps qs : List PartRecord) (meant : Meant r
         let x = has_is p A h in
         let y = has_is q B i in
         let e =
-        settled.keys k.0 k.1 s.kind (leader_of ps p) (leader_of ps q) (leader_low p x.0) (leader_low q y.0)
+        settled.keys k.0 k.1 s.kind (leader_of ps p) (leader_of ps q) (leader_low p x.0) (leader_low q y.0) (shape.own p x.0) (shape.own q y.0)
         (subst (Has (part_at ps (leader_of ps p))) (sym s.left) x.2)
         (subst (Has (part_at ps (leader_of ps q))) (sym s.right) y.2)
         (λ f n. let v = a f (subst (λ (gs : List ℕ). f ∈ gs) s.features n) in (v.0, (value_is p f v.0 v.1).2, (value_is q f v.0 v.2).2)) in

@@ -9,6 +9,10 @@ use Rattle.completion.specs.Growths.{Went}
 pub moved_none : (ps : List PartRecord) (w : Waiting) → Moved ps w ps w
 moved_none ps w = record { same = λ e. (e, refl); lighter = omega arith }
 
+-- what waits beside the line and the flag may change
+pub moved_aside : (ps : List PartRecord) (v w : Waiting) → w.grown ≡ v.grown → w.line ≡ v.line → Moved ps v ps w
+moved_aside ps v w g l = record { same = λ e. (sym g ∙ e, refl); lighter = rw (g, l) (omega arith) }
+
 pub moved_then : {ps qs rs : List PartRecord} {u v w : Waiting} → Moved ps u qs v → Moved qs v rs w → Moved ps u rs w
 moved_then m n =
     let a = m.lighter in

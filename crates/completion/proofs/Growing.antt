@@ -55,7 +55,7 @@ module _ (ps : List PartRecord) (p : ℕ) (r : PartRecord) (long : length ps ≡
   pub set_right : (R : List Rule) (F : List Claim) → (RightOf R F p (part_at ps p) → RightOf R F p r) → Right R F ps → Right R F (set ps p r)
   set_right R F h t = each (RightOf R F) (h (t p low)) t
 
-  pub set_moved : (v w : Waiting) → weight r < weight (part_at ps p) → w.grown ≡ true → length (waiting w.line) ≤ length (waiting v.line) + 1 → Moved ps v (set ps p r) w
+  pub set_moved : (v w : Waiting) → weight r < weight (part_at ps p) → w.grown ≡ true → length (waiting w.line) ≤ length (waiting v.line) + 2 → Moved ps v (set ps p r) w
   set_moved v w less up line =
       let t = total_set ps p r (omega arith) in
       record { same = λ e. absurd (true≢false (sym up ∙ e)); lighter = rw up (omega arith) }

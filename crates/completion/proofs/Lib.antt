@@ -10,3 +10,4 @@ pub mod Exactly
 pub mod Weighing
 pub mod Filling
 pub mod Agreeing
+pub mod Saying

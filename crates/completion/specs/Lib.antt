@@ -2,5 +2,6 @@
 pub mod Records
 pub mod Lines
 pub mod Growths
+pub mod PartSets
 pub mod Closed
 pub mod Whole

@@ -16,16 +16,6 @@ use stores::store::Store;
 use terms::refusal::Refusal;
 
 impl<'a> Growth<'a> {
-    // Looks at the parts that wait, and at those that wait then, until none does.
-    fn settle(&mut self, rules: &Rules)
-        ensures went { Went self.old self.new }
-        ensures right { (F : List Claim) → Meant rules.now → Right (rules_in rules.now) F self.old.parts → Right (rules_in rules.now) F self.new.parts }
-    {
-        while let Some(part) = self.waiting.take() {
-            self.visit(rules, part);
-        }
-    }
-
     // Looks at every part and every key once.
     fn pass(&mut self, rules: &Rules)
         ensures went { Went self.old self.new }
@@ -38,6 +28,18 @@ impl<'a> Growth<'a> {
         self.keys(rules);
     }
 
+    // Looks for what the keys that are due add; where that is nothing, at all.
+    fn seek(&mut self, rules: &Rules)
+        ensures went { Went self.old self.new }
+        ensures closed { self.new.waiting.grown ≡ false → Settled rules.now self.new.parts }
+        ensures right { (F : List Claim) → Meant rules.now → Right (rules_in rules.now) F self.old.parts → Right (rules_in rules.now) F self.new.parts }
+    {
+        self.sweep(rules);
+        if !self.waiting.grown {
+            self.pass(rules);
+        }
+    }
+
     // Adds all that the rules say: the parts that wait are looked at first, and a pass over all that adds nothing is the last.
     fn run(&mut self, rules: &Rules)
         requires { self.old.waiting.grown ≡ true }
@@ -48,7 +50,7 @@ impl<'a> Growth<'a> {
         while self.waiting.grown {
             self.settle(rules);
             self.waiting.grown = false;
-            self.pass(rules);
+            self.seek(rules);
         }
     }
 

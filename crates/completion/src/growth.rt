@@ -21,7 +21,7 @@ pub struct Growth<'a> {
     ghost shape: { Shape parts },
 }
 
-// In every record the leader `from` becomes the leader `to`; a part whose record changes waits.
+// In every record the leader `from` becomes the leader `to`.
 fn rename_all(parts: &mut [PartRecord; 256], waiting: &mut Waiting, from: u8, to: u8)
     requires { to < from }
     ensures moved { Moved parts.old waiting.old parts.new waiting.new }
@@ -29,7 +29,7 @@ fn rename_all(parts: &mut [PartRecord; 256], waiting: &mut Waiting, from: u8, to
 {
     for (part, record) in parts.iter_mut().enumerate() {
         if record.rename(from, to) {
-            waiting.note(part as u8);
+            waiting.renamed(part as u8, from, to);
         }
     }
 }
@@ -59,8 +59,9 @@ impl<'a> Growth<'a> {
         ensures given { (A : ℕ) → has more A ≡ true → Has (part_at self.new.parts part) A }
         ensures right { (R : List Rule) (F : List Claim) → ((A : ℕ) → has more A ≡ true → Known R F (in_class part A)) → Right R F self.old.parts → Right R F self.new.parts }
     {
+        let new = more.minus(self.parts[usize::from(part)].classes);
         if self.parts[usize::from(part)].gain(more) {
-            self.waiting.note(part);
+            self.waiting.gained(part, new);
         }
     }
 
@@ -74,7 +75,7 @@ impl<'a> Growth<'a> {
         ensures right { (R : List Rule) (F : List Claim) → ((u : ℕ) × Known R F (value_at part feature u) × Known R F (one_object u leader)) → Right R F self.old.parts → Right R F self.new.parts }
     {
         self.parts[usize::from(part)].put(feature, leader);
-        self.waiting.note(part);
+        self.waiting.valued(part, leader);
     }
 
     // The leader `from` has become one object with the lower leader `to`.
@@ -85,6 +86,7 @@ impl<'a> Growth<'a> {
         ensures named { (p : ℕ) → p < 256 → part_at self.new.parts p ≡ renamed from to (part_at self.old.parts p) }
         ensures right { (R : List Rule) (F : List Claim) → Known R F (one_object from to) → Right R F self.old.parts → Right R F self.new.parts }
     {
+        self.waiting.merged(from, to);
         rename_all(&mut self.parts, &mut self.waiting, from, to);
     }
 

@@ -3,7 +3,10 @@
 
 pub mod complete;
 mod growth;
+mod index;
+mod part_set;
 pub mod record;
 mod rules;
+mod sweeping;
 mod told;
 mod waiting;

@@ -4,9 +4,12 @@ ghost use Rattle.terms.specs.Rows.{lawful};
 ghost use Rattle.terms.specs.Worlds.{◌∈◌, Rule, key};
 ghost use Rattle.terms.specs.Facts.{Claim};
 ghost use Rattle.completion.specs.Records.{Agree, Has, Right, key_features, part_at};
+ghost use Rattle.completion.specs.PartSets.{In};
 ghost use Rattle.completion.specs.Growths.{Went};
 
 use crate::growth::Growth;
+use crate::index::Index;
+use crate::part_set::PartSet;
 use crate::record::PartRecord;
 use book::closing::gather;
 use book::links::Links;
@@ -56,7 +59,7 @@ impl<'a> Rules<'a> {
     }
 
     // The classes that those of the set are pulled back to along the feature.
-    fn pulled(&self, feature: u8, set: ClassSet) -> ClassSet
+    pub(crate) fn pulled(&self, feature: u8, set: ClassSet) -> ClassSet
         requires { feature < 16 }
         ensures { Gathered (links_by self.now.links feature).behind set result }
     {
@@ -77,10 +80,10 @@ fn is_keyed(parts: &[PartRecord; 256], row: Row, p: u8, q: u8) -> bool
 
 // The rules are passed beside the records, which change: a struct of both would have to say in each contract that the rules stay.
 impl<'a> Growth<'a> {
-    ghost use Rattle.completion.specs.Closed.{Meant, Handed, Climbed, Followed, Visited, Keyed, KeyedBy, Settled, rules_in, row_at, key_rows};
+    ghost use Rattle.completion.specs.Closed.{Meant, Handed, Climbed, Followed, Visited, Keyed, KeyedBy, KeyedFrom, KeyedIn, rules_in, row_at, key_rows};
 
     // A part that is one object with a lower one hands its classes and values over to it.
-    fn hand_over(&mut self, part: u8)
+    pub(crate) fn hand_over(&mut self, part: u8)
         ensures went { Went self.old self.new }
         ensures closed { self.new.waiting.grown ≡ false → Handed self.new.parts part }
         ensures right { (R : List Rule) (F : List Claim) → Right R F self.old.parts → Right R F self.new.parts }
@@ -106,7 +109,7 @@ impl<'a> Growth<'a> {
     }
 
     // The value of the part by the feature is in the classes that the part's lead to, and the part in those that are pulled back.
-    fn follow(&mut self, rules: &Rules, part: u8, feature: u8)
+    pub(crate) fn follow(&mut self, rules: &Rules, part: u8, feature: u8)
         requires { feature < 16 }
         ensures went { Went self.old self.new }
         ensures closed { self.new.waiting.grown ≡ false → Followed rules.now self.new.parts part feature }
@@ -135,7 +138,7 @@ impl<'a> Growth<'a> {
     }
 
     // Where the two parts are in the classes of the key and agree on its features, they are one object.
-    fn key(&mut self, row: Row, p: u8, q: u8)
+    pub(crate) fn key(&mut self, row: Row, p: u8, q: u8)
         requires { lawful row ≡ true }
         ensures went { Went self.old self.new }
         ensures closed { self.new.waiting.grown ≡ false → Keyed row self.new.parts p q }
@@ -146,30 +149,68 @@ impl<'a> Growth<'a> {
         }
     }
 
-    // The same for one part and every other.
-    fn key_from(&mut self, row: Row, p: u8)
-        requires { lawful row ≡ true }
+    // The same for a part and the parts of the set, which are places in a block of 64.
+    fn key_block(&mut self, row: Row, p: u8, block: u8, set: ClassSet)
+        requires lawful { lawful row ≡ true }
+        requires low { block < 4 }
         ensures went { Went self.old self.new }
-        ensures closed { self.new.waiting.grown ≡ false → (q : ℕ) → q < 256 → Keyed row self.new.parts p q }
+        ensures closed { self.new.waiting.grown ≡ false → KeyedIn row self.new.parts p block set }
         ensures right { (R : List Rule) (F : List Claim) → key row.left row.right (key_features row) ∈ R → Right R F self.old.parts → Right R F self.new.parts }
     {
-        if !self.parts[usize::from(p)].classes.has(row.left) {
-            return;
-        }
-        for q in 0..=255u8 {
-            self.key(row, p, q);
+        for place in set {
+            self.key(row, p, 64 * block + place);
         }
     }
 
-    // The same for every two parts.
-    fn key_all(&mut self, row: Row)
+    // The same for a part and the parts of a set.
+    fn key_each(&mut self, row: Row, p: u8, candidates: PartSet)
         requires { lawful row ≡ true }
         ensures went { Went self.old self.new }
-        ensures closed { self.new.waiting.grown ≡ false → KeyedBy row self.new.parts }
+        ensures closed { self.new.waiting.grown ≡ false → (q : ℕ) → q < 256 → In candidates q → Keyed row self.new.parts p q }
+        ensures right { (R : List Rule) (F : List Claim) → key row.left row.right (key_features row) ∈ R → Right R F self.old.parts → Right R F self.new.parts }
+    {
+        for block in 0..4u8 {
+            self.key_block(row, p, block, candidates.blocks[usize::from(block)]);
+        }
+    }
+
+    // The same for one part and every other, where both are their own leaders and the index lists the parts as they are.
+    fn key_from(&mut self, row: Row, p: u8, index: &Index)
+        requires { lawful row ≡ true }
+        ensures went { Went self.old self.new }
+        ensures closed { self.new.waiting.grown ≡ false → KeyedFrom row index.now self.new.parts p }
+        ensures right { (R : List Rule) (F : List Claim) → key row.left row.right (key_features row) ∈ R → Right R F self.old.parts → Right R F self.new.parts }
+    {
+        let record = self.parts[usize::from(p)];
+        if record.leader != p || !record.classes.has(row.left) {
+            return;
+        }
+        let candidates = index.candidates(row, row.right, &record);
+        self.key_each(row, p, candidates);
+    }
+
+    // The same for every two parts.
+    fn key_all(&mut self, row: Row, index: &Index)
+        requires { lawful row ≡ true }
+        ensures went { Went self.old self.new }
+        ensures closed { self.new.waiting.grown ≡ false → (p : ℕ) → p < 256 → KeyedFrom row index.now self.new.parts p }
         ensures right { (R : List Rule) (F : List Claim) → key row.left row.right (key_features row) ∈ R → Right R F self.old.parts → Right R F self.new.parts }
     {
         for p in 0..=255u8 {
-            self.key_from(row, p);
+            self.key_from(row, p, index);
+        }
+    }
+
+    // Adds what the keys say of the parts that the index lists.
+    fn keys_listed(&mut self, rules: &Rules, index: &Index)
+        ensures went { Went self.old self.new }
+        ensures closed { self.new.waiting.grown ≡ false → (k : ℕ) → k < length (key_rows rules.now) → (row_at rules.now k).kind ≡ 5 → (p : ℕ) → p < 256 → KeyedFrom (row_at rules.now k) index.now self.new.parts p }
+        ensures right { (F : List Claim) → Meant rules.now → Right (rules_in rules.now) F self.old.parts → Right (rules_in rules.now) F self.new.parts }
+    {
+        for row in rules.book.rows() {
+            if row.kind == RowKind::Key as u8 {
+                self.key_all(*row, index);
+            }
         }
     }
 
@@ -179,10 +220,7 @@ impl<'a> Growth<'a> {
         ensures closed { self.new.waiting.grown ≡ false → (k : ℕ) → k < length (key_rows rules.now) → (row_at rules.now k).kind ≡ 5 → KeyedBy (row_at rules.now k) self.new.parts }
         ensures right { (F : List Claim) → Meant rules.now → Right (rules_in rules.now) F self.old.parts → Right (rules_in rules.now) F self.new.parts }
     {
-        for row in rules.book.rows() {
-            if row.kind == RowKind::Key as u8 {
-                self.key_all(*row);
-            }
-        }
+        let index = Index::of(&self.parts);
+        self.keys_listed(rules, &index);
     }
 }

@@ -4,8 +4,11 @@
 use anyhow::Context;
 use book::sealed::Book;
 use image::{decode, sound};
+use image::store::ImageStore;
+use judge::judging::judge;
+use judge::sheet::Sheet;
 use possible::possible;
-use records::reading::{read_draft, read_rules};
+use records::reading::{RuleGroup, read_draft, read_rules};
 use search::ClassPair;
 use std::env;
 use std::io::Read;
@@ -53,6 +56,18 @@ fn sound_once(input: &[u8]) -> anyhow::Result<usize> {
     Ok(sound(input).len())
 }
 
+// One reading, sealing and judging of rule records and the factory records after them: how many facts were judged.
+fn judge_once(input: &[u8]) -> anyhow::Result<usize> {
+    let RuleGroup { draft, end, .. } = read_rules(input).context("a record is refused")?;
+    let facts = ImageStore::open(input.get(end..).unwrap_or_default());
+    let book = draft.seal();
+    let mut sheet = Sheet::new();
+    let mut pairs = [ClassPair::default(); 4096];
+    let mut parts = [0; 256];
+    judge(&book, &facts, &mut sheet, &mut pairs, &mut parts).context("the judging is refused")?;
+    Ok(facts.count())
+}
+
 // The sum of what a step answers to the same input each time.
 fn repeat<F: Fn(&[u8]) -> anyhow::Result<usize>>(
     step: F,
@@ -68,7 +83,7 @@ fn repeat<F: Fn(&[u8]) -> anyhow::Result<usize>>(
     Ok(total)
 }
 
-// The arguments are `read`, `seal`, `ask`, `tell` or `sound`, and how often.
+// The arguments are `read`, `seal`, `ask`, `judge`, `tell` or `sound`, and how often.
 fn main(rt: HostRuntime) -> anyhow::Result<()> {
     let mut input = Vec::new(rt.alloc());
     rt.stdin().take(32768).read_to_end(&mut input)?;
@@ -77,6 +92,7 @@ fn main(rt: HostRuntime) -> anyhow::Result<()> {
     let times = words.next().context("how often is not told")?.parse()?;
     let total = match what.as_str() {
         "ask" => repeat(ask_once, &input, times),
+        "judge" => repeat(judge_once, &input, times),
         "seal" => repeat(seal_once, &input, times),
         "tell" => repeat(tell_once, &input, times),
         "sound" => repeat(sound_once, &input, times),

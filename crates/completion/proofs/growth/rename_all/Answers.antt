@@ -21,8 +21,8 @@ loop-part-preserved c =
       later = λ p h. other p (λ e. omega arith) ∙ i.later p (omega arith);
       moved = moved_then i.moved (elim c.if-rename.branch [
         | then-rename w ↦ rw w.waiting-is
-            (set_moved qs k r i.long c.loop-part-test.true c.loop-part.waiting w.note.new.self
-            (c.rename.ensures.grew.more w.if-rename.true) w.note.ensures.grown w.note.ensures.line)
+            (set_moved qs k r i.long c.loop-part-test.true c.loop-part.waiting w.renamed.new.self
+            (c.rename.ensures.grew.more w.if-rename.true) w.renamed.ensures.grown w.renamed.ensures.line)
         | else-rename w ↦ rw (w.waiting-is, set_same qs k r (c.rename.ensures.grew.none w.if-rename.false)) (moved_none qs c.loop-part.waiting)
       ]);
     }

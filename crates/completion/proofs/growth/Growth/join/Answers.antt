@@ -1,4 +1,5 @@
 use Rattle.std.proofs.Common.{◌<◌, arith}
+use Rattle.completion.proofs.Going.{moved_aside, moved_then}
 use Rattle.completion.proofs.Renaming.{renamed_shape, renamed_kept, renamed_right}
 use Rattle.completion.proofs.growth.Growth.join.Goals as goal
 
@@ -14,7 +15,7 @@ returns-clause-went c =
     let low : c.args.from < 256 = omega arith in
     record {
       kept = renamed_kept c.args.from c.args.to g.parts c.rename_all.new.parts c.requires.lower low g.shape c.requires.leads c.rename_all.ensures.named;
-      moved = c.rename_all.ensures.moved;
+      moved = moved_then (moved_aside g.parts g.waiting c.merged.new.self c.merged.ensures.grown c.merged.ensures.line) c.rename_all.ensures.moved;
     }
 
 pub returns-clause-right : goal.returns-clause-right

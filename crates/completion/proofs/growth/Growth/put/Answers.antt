@@ -24,8 +24,8 @@ returns-clause-went c =
     let v = c.args.leader in
     record {
       kept = rw (c.put.ensures.after, c.from.ensures) (set_kept g.parts p (valued r f v) (omega arith) (omega arith) (valued_more r f v c.requires.untold));
-      moved = set_moved g.parts c.from.result c.put.new.self (omega arith) (omega arith) g.waiting c.note.new.self
-          c.put.ensures.grew c.note.ensures.grown c.note.ensures.line;
+      moved = set_moved g.parts c.from.result c.put.new.self (omega arith) (omega arith) g.waiting c.valued.new.self
+          c.put.ensures.grew c.valued.ensures.grown (let l = c.valued.ensures.line in omega arith);
     }
 
 pub returns-clause-right : goal.returns-clause-right

@@ -1,0 +1,94 @@
+// The parts that are their own leaders, by their classes and by their values.
+ghost use Rattle.std.specs.Prelude.{◌≡◌, ℕ, ◌<◌, true, List};
+ghost use Rattle.terms.specs.Rows.{lawful};
+ghost use Rattle.completion.specs.Records.{Agree, Has, key_features, leader_of, part_at};
+ghost use Rattle.completion.specs.PartSets.{HasMembers, HasNamers, In, namers_at, parts_at};
+
+use crate::part_set::PartSet;
+use crate::record::PartRecord;
+use terms::row::Row;
+
+// The members of each class, and by each feature the parts that have each value.
+#[derive(Drop)]
+pub struct Index {
+    pub members: [PartSet; 64],
+    pub namers: [[PartSet; 256]; 16],
+}
+
+// The parts in the class.
+fn members_of(parts: &[PartRecord; 256], class: u8) -> PartSet
+    ensures { HasMembers parts.now class result }
+{
+    let mut set = PartSet::NONE;
+    for (part, record) in parts.iter().enumerate() {
+        if usize::from(record.leader) == part && record.classes.has(class) {
+            set.insert(part as u8);
+        }
+    }
+    set
+}
+
+// By each value, the parts that have it by the feature.
+fn namers_by(parts: &[PartRecord; 256], feature: u8) -> [PartSet; 256]
+    ensures { HasNamers parts.now feature result }
+{
+    let mut sets = [PartSet::NONE; 256];
+    for (part, record) in parts.iter().enumerate() {
+        if usize::from(record.leader) == part {
+            if let Some(value) = record.value(feature) {
+                sets[usize::from(value)].insert(part as u8);
+            }
+        }
+    }
+    sets
+}
+
+fn members(parts: &[PartRecord; 256]) -> [PartSet; 64]
+    ensures { (A : ℕ) → A < 64 → HasMembers parts.now A (parts_at result A) }
+{
+    let mut sets = [PartSet::NONE; 64];
+    for class in 0..64u8 {
+        sets[usize::from(class)] = members_of(parts, class);
+    }
+    sets
+}
+
+fn namers(parts: &[PartRecord; 256]) -> [[PartSet; 256]; 16]
+    ensures { (f : ℕ) → f < 16 → HasNamers parts.now f (namers_at result f) }
+{
+    let mut sets = [[PartSet::NONE; 256]; 16];
+    for feature in 0..16u8 {
+        sets[usize::from(feature)] = namers_by(parts, feature);
+    }
+    sets
+}
+
+impl Index {
+    ghost use Rattle.completion.specs.PartSets.{Lists};
+
+    pub(crate) fn of(parts: &[PartRecord; 256]) -> Index
+        ensures { Lists parts.now result }
+    {
+        Index {
+            members: members(parts),
+            namers: namers(parts),
+        }
+    }
+
+    // The parts of the class, of those listed, that agree with the record on the features of the key; others may be among them.
+    pub(crate) fn candidates(&self, key: Row, class: u8, record: &PartRecord) -> PartSet
+        requires lawful { lawful key ≡ true }
+        requires low { class < 64 }
+        ensures { (ps : List PartRecord) → Lists ps self.now → (q : ℕ) → q < 256 → leader_of ps q ≡ q → Has (part_at ps q) class → Agree (key_features key) record.now (part_at ps q) → In result q }
+    {
+        let mut set = self.members[usize::from(class)];
+        for place in 0..usize::from(key.count) {
+            let feature = key.features[place];
+            let Some(value) = record.value(feature) else {
+                return PartSet::NONE;
+            };
+            set = set.meet(self.namers[usize::from(feature)][usize::from(value)]);
+        }
+        set
+    }
+}
