@@ -6,11 +6,13 @@ ghost use Rattle.completion.specs.PartSets.{HasMembers, HasNamers, In, namers_at
 
 use crate::part_set::PartSet;
 use crate::record::PartRecord;
+use classes::ClassSet;
 use terms::row::Row;
 
-// The members of each class, and by each feature the parts that have each value.
+// The records as they were, the members of each class, and by each feature the parts that have each value.
 #[derive(Drop)]
 pub struct Index {
+    pub records: [PartRecord; 256],
     pub members: [PartSet; 64],
     pub namers: [[PartSet; 256]; 16],
 }
@@ -70,6 +72,7 @@ impl Index {
         ensures { Lists parts.now result }
     {
         Index {
+            records: *parts,
             members: members(parts),
             namers: namers(parts),
         }
@@ -90,5 +93,15 @@ impl Index {
             set = set.meet(self.namers[usize::from(feature)][usize::from(value)]);
         }
         set
+    }
+
+    // The classes that are due of those that the part was in, if it was its own leader.
+    pub(crate) fn due(&self, part: u8, due: ClassSet) -> ClassSet {
+        let record = &self.records[usize::from(part)];
+        if record.leader == part {
+            due.minus(due.minus(record.classes))
+        } else {
+            ClassSet::NONE
+        }
     }
 }
