@@ -166,11 +166,10 @@ impl<'a> Growth<'a> {
     }
 
     // Looks at the keys for what is due.
-    pub(crate) fn sweep(&mut self, rules: &Rules)
+    pub(crate) fn sweep(&mut self, rules: &Rules, index: &Index)
         ensures { Follows rules.now self.old self.new }
     {
         let due = self.waiting.take_due();
-        let index = Index::of(&self.parts);
-        self.sweep_listed(rules, &due, &index);
+        self.sweep_listed(rules, &due, index);
     }
 }
