@@ -4,11 +4,13 @@ ghost use Rattle.queue.specs.Lines.{waiting};
 ghost use Rattle.terms.specs.Refusals.{ask, asked, done};
 ghost use Rattle.terms.specs.Facts.{Claim, claims_of};
 ghost use Rattle.completion.specs.Records.{Kept, Led, Right};
+ghost use Rattle.completion.specs.PartSets.{Lists};
 ghost use Rattle.completion.specs.Growths.{Went};
 ghost use Rattle.completion.specs.Closed.{Meant, Settled, rules_in};
 ghost use Rattle.completion.specs.Whole.{Complete};
 
 use crate::growth::Growth;
+use crate::index::Index;
 use crate::record::PartRecord;
 use crate::rules::Rules;
 use book::sealed::Book;
@@ -16,16 +18,16 @@ use stores::store::Store;
 use terms::refusal::Refusal;
 
 impl<'a> Growth<'a> {
-    // Looks at every part and every key once.
-    fn pass(&mut self, rules: &Rules)
+    // Looks at every part and every key once; the index is to list the parts as they are.
+    fn pass(&mut self, rules: &Rules, index: &Index)
         ensures went { Went self.old self.new }
-        ensures closed { self.new.waiting.grown ≡ false → Settled rules.now self.new.parts }
+        ensures closed { self.new.waiting.grown ≡ false → Lists self.new.parts index.now → Settled rules.now self.new.parts }
         ensures right { (F : List Claim) → Meant rules.now → Right (rules_in rules.now) F self.old.parts → Right (rules_in rules.now) F self.new.parts }
     {
         for part in 0..=255u8 {
             self.visit(rules, part);
         }
-        self.keys(rules);
+        self.keys(rules, index);
     }
 
     // Looks for what the keys that are due add; where that is nothing, at all.
@@ -34,9 +36,10 @@ impl<'a> Growth<'a> {
         ensures closed { self.new.waiting.grown ≡ false → Settled rules.now self.new.parts }
         ensures right { (F : List Claim) → Meant rules.now → Right (rules_in rules.now) F self.old.parts → Right (rules_in rules.now) F self.new.parts }
     {
-        self.sweep(rules);
+        let index = Index::of(&self.parts);
+        self.sweep(rules, &index);
         if !self.waiting.grown {
-            self.pass(rules);
+            self.pass(rules, &index);
         }
     }
 

@@ -2,15 +2,17 @@
 ghost use Rattle.std.specs.Prelude.{◌≡◌, ℕ, ◌<◌, true, List};
 ghost use Rattle.terms.specs.Rows.{lawful};
 ghost use Rattle.completion.specs.Records.{Agree, Has, key_features, leader_of, part_at};
-ghost use Rattle.completion.specs.PartSets.{HasMembers, HasNamers, In, namers_at, parts_at};
+ghost use Rattle.completion.specs.PartSets.{HasMembers, HasNamers, In, parts_at};
 
 use crate::part_set::PartSet;
 use crate::record::PartRecord;
+use classes::ClassSet;
 use terms::row::Row;
 
-// The members of each class, and by each feature the parts that have each value.
+// The records as they were, the members of each class, and by each feature the parts that have each value.
 #[derive(Drop)]
 pub struct Index {
+    pub records: [PartRecord; 256],
     pub members: [PartSet; 64],
     pub namers: [[PartSet; 256]; 16],
 }
@@ -28,11 +30,10 @@ fn members_of(parts: &[PartRecord; 256], class: u8) -> PartSet
     set
 }
 
-// By each value, the parts that have it by the feature.
-fn namers_by(parts: &[PartRecord; 256], feature: u8) -> [PartSet; 256]
-    ensures { HasNamers parts.now feature result }
+// Adds the parts that have each value by the feature.
+fn add_namers(parts: &[PartRecord; 256], feature: u8, sets: &mut [PartSet; 256])
+    ensures { HasNamers parts.now feature sets.new }
 {
-    let mut sets = [PartSet::NONE; 256];
     for (part, record) in parts.iter().enumerate() {
         if usize::from(record.leader) == part {
             if let Some(value) = record.value(feature) {
@@ -40,7 +41,6 @@ fn namers_by(parts: &[PartRecord; 256], feature: u8) -> [PartSet; 256]
             }
         }
     }
-    sets
 }
 
 fn members(parts: &[PartRecord; 256]) -> [PartSet; 64]
@@ -53,26 +53,21 @@ fn members(parts: &[PartRecord; 256]) -> [PartSet; 64]
     sets
 }
 
-fn namers(parts: &[PartRecord; 256]) -> [[PartSet; 256]; 16]
-    ensures { (f : ℕ) → f < 16 → HasNamers parts.now f (namers_at result f) }
-{
-    let mut sets = [[PartSet::NONE; 256]; 16];
-    for feature in 0..16u8 {
-        sets[usize::from(feature)] = namers_by(parts, feature);
-    }
-    sets
-}
-
 impl Index {
     ghost use Rattle.completion.specs.PartSets.{Lists};
 
     pub(crate) fn of(parts: &[PartRecord; 256]) -> Index
         ensures { Lists parts.now result }
     {
-        Index {
+        let mut index = Index {
+            records: *parts,
             members: members(parts),
-            namers: namers(parts),
+            namers: [[PartSet::NONE; 256]; 16],
+        };
+        for feature in 0..16u8 {
+            add_namers(parts, feature, &mut index.namers[usize::from(feature)]);
         }
+        index
     }
 
     // The parts of the class, of those listed, that agree with the record on the features of the key; others may be among them.
@@ -90,5 +85,15 @@ impl Index {
             set = set.meet(self.namers[usize::from(feature)][usize::from(value)]);
         }
         set
+    }
+
+    // The classes that are due of those that the part was in, if it was its own leader.
+    pub(crate) fn due(&self, part: u8, due: ClassSet) -> ClassSet {
+        let record = &self.records[usize::from(part)];
+        if record.leader == part {
+            due.minus(due.minus(record.classes))
+        } else {
+            ClassSet::NONE
+        }
     }
 }

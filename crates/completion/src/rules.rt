@@ -80,7 +80,7 @@ fn is_keyed(parts: &[PartRecord; 256], row: Row, p: u8, q: u8) -> bool
 
 // The rules are passed beside the records, which change: a struct of both would have to say in each contract that the rules stay.
 impl<'a> Growth<'a> {
-    ghost use Rattle.completion.specs.Closed.{Meant, Handed, Climbed, Followed, Visited, Keyed, KeyedBy, KeyedFrom, KeyedIn, rules_in, row_at, key_rows};
+    ghost use Rattle.completion.specs.Closed.{Meant, Handed, Climbed, Followed, Visited, Keyed, KeyedFrom, KeyedIn, rules_in, row_at, key_rows};
 
     // A part that is one object with a lower one hands its classes and values over to it.
     pub(crate) fn hand_over(&mut self, part: u8)
@@ -202,7 +202,7 @@ impl<'a> Growth<'a> {
     }
 
     // Adds what the keys say of the parts that the index lists.
-    fn keys_listed(&mut self, rules: &Rules, index: &Index)
+    pub(crate) fn keys(&mut self, rules: &Rules, index: &Index)
         ensures went { Went self.old self.new }
         ensures closed { self.new.waiting.grown ≡ false → (k : ℕ) → k < length (key_rows rules.now) → (row_at rules.now k).kind ≡ 5 → (p : ℕ) → p < 256 → KeyedFrom (row_at rules.now k) index.now self.new.parts p }
         ensures right { (F : List Claim) → Meant rules.now → Right (rules_in rules.now) F self.old.parts → Right (rules_in rules.now) F self.new.parts }
@@ -212,15 +212,5 @@ impl<'a> Growth<'a> {
                 self.key_all(*row, index);
             }
         }
-    }
-
-    // Adds what the keys say.
-    pub(crate) fn keys(&mut self, rules: &Rules)
-        ensures went { Went self.old self.new }
-        ensures closed { self.new.waiting.grown ≡ false → (k : ℕ) → k < length (key_rows rules.now) → (row_at rules.now k).kind ≡ 5 → KeyedBy (row_at rules.now k) self.new.parts }
-        ensures right { (F : List Claim) → Meant rules.now → Right (rules_in rules.now) F self.old.parts → Right (rules_in rules.now) F self.new.parts }
-    {
-        let index = Index::of(&self.parts);
-        self.keys_listed(rules, &index);
     }
 }

@@ -127,17 +127,18 @@ impl<'a> Growth<'a> {
         }
     }
 
-    // The same for a part and those that the index lists, by the classes of the part that are due.
+    // The same for a part and those that the index lists, by the classes of the part that are due; its record is that of the
+    // index, since values may have been renamed since.
     fn sweep_row(&mut self, row: Row, p: u8, due: ClassSet, index: &Index)
         requires { lawful row ≡ true }
         ensures { Joins row self.old self.new }
     {
-        let record = self.parts[usize::from(p)];
+        let record = &index.records[usize::from(p)];
         if due.has(row.left) {
-            self.meet_each(row, p, index.candidates(row, row.right, &record));
+            self.meet_each(row, p, index.candidates(row, row.right, record));
         }
         if row.left != row.right && due.has(row.right) {
-            self.meet_each(row, p, index.candidates(row, row.left, &record));
+            self.meet_each(row, p, index.candidates(row, row.left, record));
         }
     }
 
@@ -152,21 +153,12 @@ impl<'a> Growth<'a> {
         }
     }
 
-    // The classes of the part for which keys are to be looked at, if it is its own leader.
-    fn due(&self, p: u8, due: ClassSet) -> ClassSet {
-        let record = self.parts[usize::from(p)];
-        if record.leader != p {
-            return ClassSet::NONE;
-        }
-        due.minus(due.minus(record.classes))
-    }
-
     // The same for every part for which something is due.
     fn sweep_listed(&mut self, rules: &Rules, due: &[ClassSet; 256], index: &Index)
         ensures { Follows rules.now self.old self.new }
     {
         for p in 0..=255u8 {
-            let due = self.due(p, due[usize::from(p)]);
+            let due = index.due(p, due[usize::from(p)]);
             if !due.is_empty() {
                 self.sweep_part(rules, p, due, index);
             }
@@ -174,11 +166,10 @@ impl<'a> Growth<'a> {
     }
 
     // Looks at the keys for what is due.
-    pub(crate) fn sweep(&mut self, rules: &Rules)
+    pub(crate) fn sweep(&mut self, rules: &Rules, index: &Index)
         ensures { Follows rules.now self.old self.new }
     {
         let due = self.waiting.take_due();
-        let index = Index::of(&self.parts);
-        self.sweep_listed(rules, &due, &index);
+        self.sweep_listed(rules, &due, index);
     }
 }

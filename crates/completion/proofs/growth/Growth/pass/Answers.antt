@@ -25,9 +25,9 @@ returns c =
           let v = w.visit.ensures in
           let k = rw w.self-is at c.keys.ensures in record {
             went = went_then (went_then i.went v.went) k.went;
-            closed = λ e. record {
+            closed = λ e lists. record {
               parts = still (λ ps. (p : ℕ) → p < 256 → P p ps) k.went (λ f p l. still_below P c.loop-part.part v.went i.closed v.closed f p (omega arith)) e;
-              keys = k.closed e;
+              keys = λ n l five p q a b. k.closed e n l five p a lists q b;
             };
             right = λ F m t. k.right F m (v.right F m (i.right F m t));
           }

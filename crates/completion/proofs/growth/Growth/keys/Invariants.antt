@@ -4,7 +4,7 @@ use Rattle.terms.specs.Facts.{Claim}
 use Rattle.completion.specs.Records.{Right}
 use Rattle.completion.specs.Growths.{Went}
 use Rattle.completion.specs.Closed.{KeyedFrom, row_at, rules_in}
-use Rattle.completion.proofs.growth.Growth.keys_listed.Given as goal
+use Rattle.completion.proofs.growth.Growth.keys.Given as goal
 
 abbrev pub invariant-loop-row : goal.invariant-loop-row
 invariant-loop-row l = record {

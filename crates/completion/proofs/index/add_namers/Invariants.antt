@@ -2,7 +2,7 @@
 use Rattle.std.proofs.Common.{◌≡◌, ℕ, ◌<◌, Some, length}
 use Rattle.completion.specs.Records.{leader_of, part_at, value_by}
 use Rattle.completion.specs.PartSets.{In, parts_at}
-use Rattle.completion.proofs.index.namers_by.Given as goal
+use Rattle.completion.proofs.index.add_namers.Given as goal
 
 abbrev pub invariant-loop-part : goal.invariant-loop-part
 invariant-loop-part l = record {

@@ -6,8 +6,8 @@ use Rattle.completion.specs.Closed.{KeyedFrom, key_rows, row_at, rules_in}
 use Rattle.completion.proofs.Going.{went_none, went_then}
 use Rattle.completion.proofs.Keying.{key_in}
 use Rattle.completion.proofs.Running.{still_below}
-use Rattle.completion.proofs.growth.Growth.keys_listed.Goals as goal
-use Rattle.completion.proofs.growth.Growth.keys_listed.Goals.{then-row, else-row}
+use Rattle.completion.proofs.growth.Growth.keys.Goals as goal
+use Rattle.completion.proofs.growth.Growth.keys.Goals.{then-row, else-row}
 
 abbrev blank : Row
 blank = record { kind = 0; left = 0; right = 0; count = 0; features = [] }
