@@ -70,16 +70,16 @@ impl Index {
         index
     }
 
-    // The parts of the class, of those listed, that agree with the record on the features of the key; others may be among them.
-    pub(crate) fn candidates(&self, key: Row, class: u8, record: &PartRecord) -> PartSet
+    // The parts of the class, of those listed, that agree with the one on the features of the key; others may be among them.
+    pub(crate) fn candidates(&self, key: Row, class: u8, one: &PartRecord) -> PartSet
         requires lawful { lawful key ≡ true }
         requires low { class < 64 }
-        ensures { (ps : List PartRecord) → Lists ps self.now → (q : ℕ) → q < 256 → leader_of ps q ≡ q → Has (part_at ps q) class → Agree (key_features key) record.now (part_at ps q) → In result q }
+        ensures { (ps : List PartRecord) → Lists ps self.now → (q : ℕ) → q < 256 → leader_of ps q ≡ q → Has (part_at ps q) class → Agree (key_features key) one.now (part_at ps q) → In result q }
     {
         let mut set = self.members[usize::from(class)];
         for place in 0..usize::from(key.count) {
             let feature = key.features[place];
-            let Some(value) = record.value(feature) else {
+            let Some(value) = one.value(feature) else {
                 return PartSet::NONE;
             };
             set = set.meet(self.namers[usize::from(feature)][usize::from(value)]);

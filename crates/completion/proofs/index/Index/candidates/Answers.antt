@@ -28,5 +28,5 @@ loop-place-preserved c ps lists q low leads has agree =
     let same : v.0 ≡ c.in-Some.value = cc in
     let f = c.from-in-loop-place.result in
     let sets = namers_at c.args.self.now.namers f in
-    let named : In (parts_at sets v.0) q = rw c.from-in-loop-place.ensures (lists.namers _ (value_low c.args.record.now _ v.0 (omega arith) v.1) q v.0 low leads v.2) in
+    let named : In (parts_at sets v.0) q = rw c.from-in-loop-place.ensures (lists.namers _ (value_low c.args.one.now _ v.0 (omega arith) v.1) q v.0 low leads v.2) in
     c.meet-set.ensures q low i (rw c.from-in-loop-place-2.ensures (subst (λ n. In (parts_at sets n) q) same named))

@@ -6,4 +6,4 @@ use Rattle.completion.specs.PartSets.{In, Lists}
 use Rattle.completion.proofs.index.Index.candidates.Given as goal
 
 abbrev pub invariant-loop-place : goal.invariant-loop-place
-invariant-loop-place l = (ps : List PartRecord) → Lists ps l.self → (q : ℕ) → q < 256 → leader_of ps q ≡ q → Has (part_at ps q) l.class → Agree (key_features l.key) l.record (part_at ps q) → In l.set q
+invariant-loop-place l = (ps : List PartRecord) → Lists ps l.self → (q : ℕ) → q < 256 → leader_of ps q ≡ q → Has (part_at ps q) l.class → Agree (key_features l.key) l.one (part_at ps q) → In l.set q
