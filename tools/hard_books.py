@@ -107,6 +107,14 @@ def all_alike(classes, keys, same):
     return book(rows, facts)
 
 
+def all_joined(rows):
+    """Every part has the same values, and each of the keys joins all of them."""
+    triples = list(itertools.combinations(range(15), 4))
+    facts = [in_class(p, 0) for p in range(PARTS)]
+    facts += [value(p, f, 255) for p in range(PARTS) for f in range(15)]
+    return book([key(0, 0, *triples[i]) for i in range(rows)], facts)
+
+
 def long_word(everywhere):
     """Two cycles of 31 and 33 classes over one feature, both begun by class 0, whose last classes exclude each other."""
     rows = [leads(c, 0, c + 1 if c < 30 else 0) for c in range(31)]
@@ -161,6 +169,7 @@ BOOKS = [
     ("256 keys of one class that all but one feature meets", all_alike(1, 256, True)),
     ("192 keys of 64 classes that all but one feature meets", all_alike(64, 192, True)),
     ("256 keys of one class, with few candidates", all_alike(1, 256, False)),
+    ("256 keys, each of which joins all parts", all_joined(256)),
     ("the longest word", long_word(False)),
     ("the longest word, sought from 256 parts", long_word(True)),
     ("256 parts in 63 classes that lead to one another by all features", dense_search()),

@@ -1,6 +1,6 @@
 #!/usr/bin/env python3
-"""Counts the instructions of sealing full books of 256 rows, of the densest searches, and of telling and reading 5,000
-facts, and writes docs/COSTS.md.
+"""Counts the instructions of sealing full books of 256 rows, of the densest searches, of telling and reading 5,000 facts,
+and of judging hard books, and writes docs/COSTS.md.
 
 Run it from the repository's root after `rt ci`, which builds the program; it needs valgrind.
 """
@@ -9,6 +9,8 @@ import random
 import re
 import subprocess
 import tempfile
+
+from hard_books import BOOKS
 
 PROGRAM = "crates/costs/out/costs"
 PAGE = "docs/COSTS.md"
@@ -107,9 +109,9 @@ def instructions(book, what, times):
     return int(re.search(r"Collected : (\d+)", run.stderr.decode()).group(1))
 
 
-def each(book, what):
+def each(book, what, more=10):
     """What one more time costs."""
-    return (instructions(book, what, 11) - instructions(book, what, 1)) // 10
+    return (instructions(book, what, 1 + more) - instructions(book, what, 1)) // more
 
 
 def table(books, what, less):
@@ -131,10 +133,19 @@ def stores_table():
     return ["| what | instructions |", "|---|---:|"] + rows + [""]
 
 
+def judging_table():
+    rows = []
+    for name, book in BOOKS:
+        cost = each(book, "judge", 1)
+        print(f"{cost:>14,}  {name}", flush=True)
+        rows.append(f"| {name} | {len(book):,} | {cost:,} |")
+    return ["| book | bytes | instructions |", "|---|---:|---:|"] + rows + [""]
+
+
 def main():
     kit = subprocess.run(["rt", "version"], capture_output=True, text=True, check=True).stdout.split()[0]
     lines = [
-        "# What sealing, searching and storing cost",
+        "# What sealing, searching, storing and judging cost",
         "",
         f"Instructions, counted by `valgrind --tool=callgrind` and written by `tools/measure.py`, of the program that {kit} builds. A count is the same on every run of the same binary.",
         "",
@@ -158,6 +169,13 @@ def main():
         "",
     ]
     lines += stores_table()
+    lines += [
+        "## Judging",
+        "",
+        "Reading rule and factory records, sealing, completing and searching, in all, for books of at most 32,767 bytes. `tools/hard_books.py` makes them: a typical one, and the hardest that we know of several kinds. Of a full book some 60 million go to comparing each fact with those before it.",
+        "",
+    ]
+    lines += judging_table()
     os.makedirs("docs", exist_ok=True)
     with open(PAGE, "w") as page:
         page.write("\n".join(lines))

@@ -31,20 +31,20 @@ impl<'a> Growth<'a> {
     }
 
     // Looks for what the keys that are due add; where that is nothing, at all.
-    fn seek(&mut self, rules: &Rules)
+    fn seek(&mut self, rules: &Rules, index: &mut Index)
         ensures went { Went self.old self.new }
         ensures closed { self.new.waiting.grown ≡ false → Settled rules.now self.new.parts }
         ensures right { (F : List Claim) → Meant rules.now → Right (rules_in rules.now) F self.old.parts → Right (rules_in rules.now) F self.new.parts }
     {
-        let index = Index::of(&self.parts);
-        self.sweep(rules, &index);
+        index.list(&self.parts);
+        self.sweep(rules, index);
         if !self.waiting.grown {
-            self.pass(rules, &index);
+            self.pass(rules, index);
         }
     }
 
     // Adds all that the rules say: the parts that wait are looked at first, and a pass over all that adds nothing is the last.
-    fn run(&mut self, rules: &Rules)
+    fn run(&mut self, rules: &Rules, index: &mut Index)
         requires { self.old.waiting.grown ≡ true }
         ensures kept { Kept self.old.parts self.new.parts }
         ensures settled { Settled rules.now self.new.parts }
@@ -53,7 +53,7 @@ impl<'a> Growth<'a> {
         while self.waiting.grown {
             self.settle(rules);
             self.waiting.grown = false;
-            self.seek(rules);
+            self.seek(rules, index);
         }
     }
 
@@ -82,6 +82,6 @@ pub fn complete<S: Store>(
     let rules = Rules::of(book);
     let mut growth = Growth::new(slots);
     growth.tell_all(store);
-    growth.run(&rules);
+    growth.run(&rules, &mut Index::new());
     Ok(growth.records())
 }

@@ -30,6 +30,13 @@ fn members_of(parts: &[PartRecord; 256], class: u8) -> PartSet
     set
 }
 
+// Empties the sets.
+fn clear(sets: &mut [PartSet; 256]) {
+    for set in sets.iter_mut() {
+        *set = PartSet::NONE;
+    }
+}
+
 // Adds the parts that have each value by the feature.
 fn add_namers(parts: &[PartRecord; 256], feature: u8, sets: &mut [PartSet; 256])
     ensures { HasNamers parts.now feature sets.new }
@@ -56,18 +63,26 @@ fn members(parts: &[PartRecord; 256]) -> [PartSet; 64]
 impl Index {
     ghost use Rattle.completion.specs.PartSets.{Lists};
 
-    pub(crate) fn of(parts: &[PartRecord; 256]) -> Index
-        ensures { Lists parts.now result }
-    {
-        let mut index = Index {
-            records: *parts,
-            members: members(parts),
+    // An index that lists no part. It is made once and lent, since it is large.
+    pub(crate) fn new() -> Index {
+        Index {
+            records: [PartRecord::alone(0); 256],
+            members: [PartSet::NONE; 64],
             namers: [[PartSet::NONE; 256]; 16],
-        };
-        for feature in 0..16u8 {
-            add_namers(parts, feature, &mut index.namers[usize::from(feature)]);
         }
-        index
+    }
+
+    // Lists the parts anew.
+    pub(crate) fn list(&mut self, parts: &[PartRecord; 256])
+        ensures { Lists parts.now self.new }
+    {
+        self.records = *parts;
+        self.members = members(parts);
+        for feature in 0..16u8 {
+            let sets = &mut self.namers[usize::from(feature)];
+            clear(sets);
+            add_namers(parts, feature, sets);
+        }
     }
 
     // The parts of the class, of those listed, that agree with the one on the features of the key; others may be among them.

@@ -128,11 +128,14 @@ impl<'a> Growth<'a> {
     }
 
     // The same for a part and those that the index lists, by the classes of the part that are due; its record is that of the
-    // index, since values may have been renamed since.
+    // index, since values may have been renamed since. What a part that was joined to another had is due at the other.
     fn sweep_row(&mut self, row: Row, p: u8, due: ClassSet, index: &Index)
         requires { lawful row ≡ true }
         ensures { Joins row self.old self.new }
     {
+        if self.leader(p) != p {
+            return;
+        }
         let record = &index.records[usize::from(p)];
         if due.has(row.left) {
             self.meet_each(row, p, index.candidates(row, row.right, record));

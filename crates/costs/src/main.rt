@@ -3,8 +3,8 @@
 
 use anyhow::Context;
 use book::sealed::Book;
-use image::{decode, sound};
 use image::store::ImageStore;
+use image::{decode, sound};
 use judge::judging::judge;
 use judge::sheet::Sheet;
 use possible::possible;
