@@ -6,6 +6,8 @@ mod books;
 #[cfg(test)]
 mod completing;
 #[cfg(test)]
+mod lists;
+#[cfg(test)]
 mod makes;
 #[cfg(test)]
 mod making;
