@@ -1,5 +1,6 @@
-pub mod Groups
-pub mod Turns
-pub mod Whole
-pub mod Encoding
+-- How files are read, record by record, and the law of their layout.
+pub mod Stepping
+pub mod Chunks
+pub mod Taking
+pub mod Past
 pub mod Law

@@ -1,1 +1,6 @@
-pub mod Records
+-- What files of records are, and what reading them gives.
+pub mod Faults
+pub mod Books
+pub mod Reading
+pub mod Groups
+pub mod Opened

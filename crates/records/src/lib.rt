@@ -1,14 +1,17 @@
-// Reading records: bytes into rows, and the number of the record that is refused.
+// Reading files of records: bytes into rows and facts, and the number of the record that is refused.
 #![tactic(auto)]
 
 ghost use Rattle.std.specs.Prelude.{Some};
-ghost use Rattle.records.specs.Records.{fault_text};
+ghost use Rattle.records.specs.Faults.{fault_text};
 
 use std::error::Error;
 use std::fmt;
 use terms::refusal::Refusal;
 
+mod facts;
+pub mod opened;
 pub mod reading;
+mod rules;
 #[cfg(test)]
 mod tests;
 

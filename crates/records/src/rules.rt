@@ -1,0 +1,49 @@
+// The rule records at the front of a file.
+ghost use Rattle.std.specs.Prelude.{◌≡◌, ◌∷◌, length};
+ghost use Rattle.terms.specs.Refusals.{ask, asked, numbered};
+ghost use Rattle.book.specs.Drafts.{grown, listed, rule_questions};
+ghost use Rattle.layout.specs.declared.Group.TheVariants.{Rule};
+ghost use Rattle.layout.specs.Layout.{row_in, whole};
+ghost use Rattle.records.specs.Groups.{RulesRead};
+
+use crate::Fault;
+use book::draft::Draft;
+use layout::{Group, rule_record};
+use terms::refusal::Refusal;
+
+// The draft of the rows, and how many rule records there are.
+#[derive(Drop)]
+pub struct RuleGroup {
+    pub draft: Draft,
+    pub records: usize,
+}
+
+// Takes the rule record at the front of the bytes into the draft.
+fn take_rule(bytes: &[u8], draft: &mut Draft) -> Result<u8, Refusal>
+    ensures answer { numbered result ≡ asked (ask 12 (whole Rule bytes.now) ∷ rule_questions (listed draft.old) (row_in bytes.now)) (length (listed draft.old)) }
+    ensures after { listed draft.new ≡ grown result (listed draft.old) (row_in bytes.now) }
+{
+    let row = rule_record(bytes)?;
+    draft.rule(row)
+}
+
+// Takes the rule records at the front of the bytes.
+pub(crate) fn read_rules(bytes: &[u8]) -> Result<RuleGroup, Fault>
+    ensures { RulesRead bytes.now result }
+{
+    let size = Group::Rule.size();
+    let mut draft = Draft::new();
+    for (index, record) in bytes.chunks(size).enumerate() {
+        if !Group::Rule.marks(record) {
+            return Ok(RuleGroup {
+                draft,
+                records: index,
+            });
+        }
+        take_rule(record, &mut draft).map_err(|refusal| Fault { refusal, index })?;
+    }
+    Ok(RuleGroup {
+        draft,
+        records: bytes.len() / size,
+    })
+}
