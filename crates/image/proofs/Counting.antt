@@ -6,7 +6,7 @@ use Rattle.stores.specs.Meaning.{Meaning, listed}
 use Rattle.stores.proofs.Keeping.{means_nothing, means_more, yes_lawful}
 use Rattle.layout.specs.declared.Group.TheVariants.{Factory}
 use Rattle.layout.specs.Layout.{marked}
-use Rattle.image.specs.Layout.{fact_at, facts_in, record_at, good_at, good_to, sound_count, sound_facts}
+use Rattle.image.specs.SoundParts.{fact_at, facts_in, record_at, good_at, good_to, sound_count, sound_facts}
 use Rattle.image.proofs.Reading.{facts_count}
 
 -- the turns of the loop

@@ -11,7 +11,7 @@ use Rattle.stores.proofs.Listing.{nth_in, in_nth, listed_in, nth_below}
 use Rattle.layout.specs.declared.Group.TheVariants.{Factory}
 use Rattle.layout.specs.Layout.{encoded_fact, encoded_facts, marked, fact_in}
 use Rattle.layout.proofs.Records.{fact_forth, facts_length, facts_more}
-use Rattle.image.specs.Layout.{LongestSound, good, record_at, fact_at, facts_in, good_at, sound_count, sound_part, sound_facts}
+use Rattle.image.specs.SoundParts.{LongestSound, good, record_at, fact_at, facts_in, good_at, sound_count, sound_part, sound_facts}
 use Rattle.image.proofs.Reading.{facts_count, facts_nth, facts_front}
 use Rattle.image.proofs.Counting.{count_fits, count_good, count_longest, sound_means}
 

@@ -7,7 +7,7 @@ use Rattle.std.proofs.lemmas.Bool.{cases_lt}
 use Rattle.terms.specs.declared.fact.Fact.{Fact}
 use Rattle.stores.proofs.Listing.{nth_lower, nth_upper}
 use Rattle.layout.specs.Layout.{fact_in}
-use Rattle.image.specs.Layout.{record_at, fact_at, facts_in, good, good_at}
+use Rattle.image.specs.SoundParts.{record_at, fact_at, facts_in, good, good_at}
 
 pub facts_count : (n : ℕ) (bytes : List ℕ) → length (facts_in n bytes) ≡ n
 facts_count zero bytes = refl

@@ -4,7 +4,7 @@ use Rattle.terms.specs.declared.fact.Fact.{Fact}
 use Rattle.layout.specs.declared.Group.TheVariants.{Factory}
 use Rattle.layout.specs.Layout.{layout}
 use Rattle.image.specs.declared.store.ImageStore.{ImageStore}
-use Rattle.image.specs.Layout.{facts_in}
+use Rattle.image.specs.SoundParts.{facts_in}
 
 abbrev pub image_facts : ImageStore → List Fact
 image_facts s = facts_in (length s.bytes.now / (layout Factory).size) s.bytes.now

@@ -4,7 +4,7 @@
 ghost use Rattle.std.specs.Prelude.{◌≡◌, map};
 ghost use Rattle.stores.specs.Meaning.{listed};
 ghost use Rattle.layout.specs.Layout.{fact_in};
-ghost use Rattle.image.specs.Layout.{good, sound_part, sound_facts, LongestSound};
+ghost use Rattle.image.specs.SoundParts.{good, sound_part, sound_facts, LongestSound};
 
 use layout::{Group, decode};
 use terms::fact::Fact;

@@ -1,5 +1,5 @@
 // The image store: factory records read in the caller's bytes.
-ghost use Rattle.image.specs.Layout.{ImageValid};
+ghost use Rattle.image.specs.SoundParts.{ImageValid};
 
 use crate::{among, sound};
 use layout::decode;
@@ -18,7 +18,7 @@ pub struct ImageStore<'a> {
 impl<'a> ImageStore<'a> {
     ghost use Rattle.std.specs.Prelude.{◌≡◌, map};
     ghost use Rattle.layout.specs.Layout.{fact_in};
-    ghost use Rattle.image.specs.Layout.{sound_part, sound_facts, LongestSound};
+    ghost use Rattle.image.specs.SoundParts.{sound_part, sound_facts, LongestSound};
     ghost use Rattle.image.specs.Images.{image_facts, image_room};
 
     // A store that lists the facts of the sound part of the bytes, and has no free place.

@@ -1,7 +1,7 @@
 use Rattle.std.proofs.Common.{◌≡◌, ℕ, ◌*◌, List, [], length, take, sym, ap, ◌∙◌, subst, arith}
 use Rattle.layout.specs.declared.Group.TheVariants.{Factory}
 use Rattle.layout.specs.Layout.{layout}
-use Rattle.image.specs.Layout.{good_to, sound_count, sound_part, sound_facts, LongestSound}
+use Rattle.image.specs.SoundParts.{good_to, sound_count, sound_part, sound_facts, LongestSound}
 use Rattle.image.proofs.Counting.{good_on, good_stops, good_ends}
 use Rattle.image.proofs.Encoding.{longest_sound}
 use Rattle.image.proofs.Reading.{looked_at, looked_length, good_there}
