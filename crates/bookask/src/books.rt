@@ -3,7 +3,6 @@ ghost use Rattle.stores.specs.Piles.{PileValid};
 ghost use Rattle.image.specs.Images.{image_facts};
 
 use book::sealed::Book;
-use image::decode;
 use image::store::ImageStore;
 use records::Fault;
 use records::reading::read_rules;

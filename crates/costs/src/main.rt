@@ -3,10 +3,11 @@
 
 use anyhow::Context;
 use book::sealed::Book;
+use image::sound;
 use image::store::ImageStore;
-use image::{decode, sound};
 use judge::judging::judge;
 use judge::sheet::Sheet;
+use layout::decode;
 use possible::possible;
 use records::reading::{RuleGroup, read_draft, read_rules};
 use search::ClassPair;

@@ -4,8 +4,10 @@ use Rattle.std.proofs.lemmas.Bool.{cases_lt, and_parts, not-true, false≢true}
 use Rattle.terms.specs.Lawful.{lawful_fact}
 use Rattle.stores.specs.Meaning.{Meaning, listed}
 use Rattle.stores.proofs.Keeping.{means_nothing, means_more, yes_lawful}
-use Rattle.image.specs.Layout.{fact_at, facts_in, marked, record_at, good_at, good_to, sound_count, sound_facts}
-use Rattle.image.proofs.Reading.{facts_length}
+use Rattle.layout.specs.declared.Group.TheVariants.{Factory}
+use Rattle.layout.specs.Layout.{marked}
+use Rattle.image.specs.SoundParts.{fact_at, facts_in, record_at, good_at, good_to, sound_count, sound_facts}
+use Rattle.image.proofs.Reading.{facts_count}
 
 -- the turns of the loop
 pub good_on : (n i : ℕ) (bytes : List ℕ) → i < n → true ≡ good_at bytes i → good_to (n - i) i bytes ≡ good_to (n - (i + 1)) (i + 1) bytes
@@ -71,9 +73,9 @@ count_longest m bytes h k g = longest_from (min (length bytes / 6) 65536) 0 m by
 -- good records are different lawful facts
 good_means : (i : ℕ) (bytes : List ℕ) → Meaning (facts_in i bytes) 0 → i < 65536 → good_at bytes i ≡ true → Meaning (facts_in (suc i) bytes) 0
 good_means i bytes m h g =
-    let p = and_parts (marked (record_at bytes i)) (lawful_fact (fact_at bytes i) && not (listed (facts_in i bytes) (fact_at bytes i))) g in
+    let p = and_parts (marked Factory (record_at bytes i)) (lawful_fact (fact_at bytes i) && not (listed (facts_in i bytes) (fact_at bytes i))) g in
     let q = and_parts (lawful_fact (fact_at bytes i)) (not (listed (facts_in i bytes) (fact_at bytes i))) p.1 in
-    let len = facts_length i bytes in
+    let len = facts_count i bytes in
     let m1 : Meaning (facts_in i bytes) 1 = record { lawful = m.lawful; different = m.different; short = m.short; fits = omega arith } in
     means_more (facts_in i bytes) 1 (fact_at bytes i) m1 (yes_lawful (fact_at bytes i) q.0) (not-true (listed (facts_in i bytes) (fact_at bytes i)) q.1) (omega arith)
 

@@ -6,16 +6,17 @@ use Rattle.std.proofs.lemmas.List.{length_push, drop-drop, drop-take, take-take,
 use Rattle.std.proofs.lemmas.Bool.{cases_lt}
 use Rattle.terms.specs.declared.fact.Fact.{Fact}
 use Rattle.stores.proofs.Listing.{nth_lower, nth_upper}
-use Rattle.image.specs.Layout.{fact_of, record_at, fact_at, facts_in, good, good_at}
+use Rattle.layout.specs.Layout.{fact_in}
+use Rattle.image.specs.SoundParts.{record_at, fact_at, facts_in, good, good_at}
 
-pub facts_length : (n : ℕ) (bytes : List ℕ) → length (facts_in n bytes) ≡ n
-facts_length zero bytes = refl
-facts_length (suc n) bytes = length_push (facts_in n bytes) (fact_at bytes n) ∙ ap (λ (k : ℕ). k + 1) (facts_length n bytes) ∙ add-one n
+pub facts_count : (n : ℕ) (bytes : List ℕ) → length (facts_in n bytes) ≡ n
+facts_count zero bytes = refl
+facts_count (suc n) bytes = length_push (facts_in n bytes) (fact_at bytes n) ∙ ap (λ (k : ℕ). k + 1) (facts_count n bytes) ∙ add-one n
 
 pub facts_nth : (n i : ℕ) (bytes : List ℕ) → i < n → slice_get (facts_in n bytes) i ≡ Some (fact_at bytes i)
 facts_nth zero i bytes h = absurd (omega arith)
 facts_nth (suc n) i bytes h =
-    let len = facts_length n bytes in
+    let len = facts_count n bytes in
     elim (cases_lt i n) [
       | inl l ↦ let k : i < length (facts_in n bytes) = omega arith in nth_lower (facts_in n bytes) _ i k ∙ facts_nth n i bytes l
       | inr g ↦
@@ -33,10 +34,10 @@ chunks_more (suc n) bytes =
     ap (λ (z : List (List ℕ)). take 6 bytes ∷ z) (chunks_more n (drop 6 bytes) ∙ ap (λ (z : List ℕ). first_chunks 6 n (drop 6 bytes) ++ z ∷ [])
     (ap (take 6) (drop-drop (6 * n) 6 bytes ∙ ap (λ (k : ℕ). drop k bytes) e)))
 
-pub chunks_facts : (n : ℕ) (bytes : List ℕ) → map fact_of (first_chunks 6 n bytes) ≡ facts_in n bytes
+pub chunks_facts : (n : ℕ) (bytes : List ℕ) → map fact_in (first_chunks 6 n bytes) ≡ facts_in n bytes
 chunks_facts zero bytes = refl
 chunks_facts (suc n) bytes =
-    ap (map fact_of) (chunks_more n bytes) ∙ map-append fact_of (first_chunks 6 n bytes) (record_at bytes n ∷ [])
+    ap (map fact_in) (chunks_more n bytes) ∙ map-append fact_in (first_chunks 6 n bytes) (record_at bytes n ∷ [])
     ∙ ap (λ (z : List Fact). z ++ fact_at bytes n ∷ []) (chunks_facts n bytes)
 
 pub chunks_front : (i n : ℕ) (bytes : List ℕ) → i ≤ n → take i (first_chunks 6 n bytes) ≡ first_chunks 6 i bytes
@@ -67,12 +68,12 @@ module _ (bytes : List ℕ) (records : List (List ℕ)) (n : ℕ) (e : records �
   pub looked_length : length records ≡ n
   looked_length = ap length e ∙ chunks_length n bytes
 
-  pub good_there : (i : ℕ) (d : List ℕ) → i < length records → good (get_or records i d) (map fact_of (take i records)) ≡ good_at bytes i
+  pub good_there : (i : ℕ) (d : List ℕ) → i < length records → good (get_or records i d) (map fact_in (take i records)) ≡ good_at bytes i
   good_there i d h =
       let l : i < n = omega (arith, looked_length) in
-      ap (λ (z : List (List ℕ)). good (get_or z i d) (map fact_of (take i z))) e
-      ∙ ap (λ (r : List ℕ). good r (map fact_of (take i (first_chunks 6 n bytes)))) (chunks_nth n i bytes d l)
-      ∙ ap (good (record_at bytes i)) (ap (map fact_of) (chunks_front i n bytes (omega arith)) ∙ chunks_facts i bytes)
+      ap (λ (z : List (List ℕ)). good (get_or z i d) (map fact_in (take i z))) e
+      ∙ ap (λ (r : List ℕ). good r (map fact_in (take i (first_chunks 6 n bytes)))) (chunks_nth n i bytes d l)
+      ∙ ap (good (record_at bytes i)) (ap (map fact_in) (chunks_front i n bytes (omega arith)) ∙ chunks_facts i bytes)
 
 -- records in a front part of the bytes
 record_front : (bytes : List ℕ) (n i : ℕ) → i < n → record_at (take (6 * n) bytes) i ≡ record_at bytes i
@@ -85,4 +86,4 @@ pub facts_front : (bytes : List ℕ) (n i : ℕ) → i ≤ n → facts_in i (tak
 facts_front bytes n zero h = refl
 facts_front bytes n (suc i) h =
     ap (λ (x : List Fact). x ++ fact_at (take (6 * n) bytes) i ∷ []) (facts_front bytes n i (omega arith))
-    ∙ ap (λ (x : List ℕ). facts_in i bytes ++ fact_of x ∷ []) (record_front bytes n i (omega arith))
+    ∙ ap (λ (x : List ℕ). facts_in i bytes ++ fact_in x ∷ []) (record_front bytes n i (omega arith))

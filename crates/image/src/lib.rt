@@ -3,38 +3,27 @@
 
 ghost use Rattle.std.specs.Prelude.{◌≡◌, map};
 ghost use Rattle.stores.specs.Meaning.{listed};
-ghost use Rattle.image.specs.Layout.{fact_of, good, sound_part, sound_facts, LongestSound};
+ghost use Rattle.layout.specs.Layout.{fact_in};
+ghost use Rattle.image.specs.SoundParts.{good, sound_part, sound_facts, LongestSound};
 
+use layout::{Group, decode};
 use terms::fact::Fact;
 
 pub mod store;
 
-// The fact of a record, by its bytes. No `From`, since the layout is this crate's and the type is that of `terms`.
-pub fn decode(bytes: &[u8; 6]) -> Fact
-    ensures { result ≡ fact_of bytes.now }
-{
-    let [_, _, kind, first, second, third] = *bytes;
-    Fact {
-        kind,
-        first,
-        second,
-        third,
-    }
-}
-
 // Is the fact that of one of the records?
 fn among(records: &[[u8; 6]], fact: Fact) -> bool
-    ensures { result ≡ listed (map fact_of records.now) fact }
+    ensures { result ≡ listed (map fact_in records.now) fact }
 {
     records.iter().map(decode).any(|listed| listed == fact)
 }
 
 // Is the record marked, lawful, and none of those before it?
 fn is_good(bytes: &[u8; 6], before: &[[u8; 6]]) -> bool
-    ensures { result ≡ good bytes.now (map fact_of before.now) }
+    ensures { result ≡ good bytes.now (map fact_in before.now) }
 {
     let fact = decode(bytes);
-    bytes.starts_with(&[0x50, 0x46]) && fact.check().is_ok() && !among(before, fact)
+    Group::Factory.marks(bytes) && fact.check().is_ok() && !among(before, fact)
 }
 
 // The longest front part of the bytes that is whole, lawful factory records, no fact twice, at most 65,536: it ends before
@@ -48,8 +37,8 @@ pub fn sound(bytes: &[u8]) -> &[u8]
     let records = &records[..records.len().min(65536)];
     for (place, record) in records.iter().enumerate() {
         if !is_good(record, &records[..place]) {
-            return &bytes[..6 * place];
+            return &bytes[..Group::Factory.size() * place];
         }
     }
-    &bytes[..6 * records.len()]
+    &bytes[..Group::Factory.size() * records.len()]
 }

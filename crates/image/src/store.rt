@@ -1,7 +1,8 @@
 // The image store: factory records read in the caller's bytes.
-ghost use Rattle.image.specs.Layout.{ImageValid};
+ghost use Rattle.image.specs.SoundParts.{ImageValid};
 
-use crate::{among, decode, sound};
+use crate::{among, sound};
+use layout::decode;
 use stores::store::Store;
 use stores::told::{Told, answer};
 use terms::fact::Fact;
@@ -16,7 +17,8 @@ pub struct ImageStore<'a> {
 
 impl<'a> ImageStore<'a> {
     ghost use Rattle.std.specs.Prelude.{◌≡◌, map};
-    ghost use Rattle.image.specs.Layout.{fact_of, sound_part, sound_facts, LongestSound};
+    ghost use Rattle.layout.specs.Layout.{fact_in};
+    ghost use Rattle.image.specs.SoundParts.{sound_part, sound_facts, LongestSound};
     ghost use Rattle.image.specs.Images.{image_facts, image_room};
 
     // A store that lists the facts of the sound part of the bytes, and has no free place.
@@ -32,7 +34,7 @@ impl<'a> ImageStore<'a> {
     }
 
     fn records(&self) -> &[[u8; 6]]
-        ensures { map fact_of result.now ≡ image_facts self.now }
+        ensures { map fact_in result.now ≡ image_facts self.now }
     {
         self.bytes.as_chunks().0
     }

@@ -1,5 +1,5 @@
 use Rattle.std.proofs.Common.{◌≡◌, ◌-◌, length}
-use Rattle.image.specs.Layout.{good_to, sound_count}
+use Rattle.image.specs.SoundParts.{good_to, sound_count}
 use Rattle.image.proofs.sound.Given as goal
 
 abbrev pub invariant-loop-place : goal.invariant-loop-place

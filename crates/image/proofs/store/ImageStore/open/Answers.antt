@@ -1,6 +1,6 @@
 use Rattle.std.proofs.Common.{List, sym, subst}
 use Rattle.terms.specs.declared.fact.Fact.{Fact}
-use Rattle.image.specs.Layout.{Sound, LongestSound}
+use Rattle.image.specs.SoundParts.{Sound, LongestSound}
 use Rattle.image.proofs.Encoding.{part_facts}
 use Rattle.image.proofs.store.ImageStore.open.Goals as goal
 

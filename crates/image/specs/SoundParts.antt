@@ -1,20 +1,14 @@
--- Factory records: how facts are laid out in bytes, and the sound part at the front of bytes.
-use Rattle.std.specs.Prelude.{◌≡◌, ℕ, zero, suc, ◌*◌, ◌/◌, ◌≤◌, min, Bool, cond, not, ◌&&◌, List, [], ◌∷◌, ◌++◌, length, take, drop, ◌==◌, slice_index}
+-- The sound part at the front of bytes: its factory records, and their facts.
+use Rattle.std.specs.Prelude.{◌≡◌, ℕ, zero, suc, ◌*◌, ◌/◌, ◌≤◌, min, Bool, cond, not, ◌&&◌, List, [], ◌∷◌, ◌++◌, length, take, drop}
 use Rattle.terms.specs.declared.fact.Fact.{Fact}
 use Rattle.terms.specs.Lawful.{lawful_fact}
 use Rattle.stores.specs.Meaning.{Meaning, listed}
-
--- a factory record is the mark 50 46 (hexadecimal), then kind and three numbers: 6 bytes
-abbrev pub encoded_fact : Fact → List ℕ
-encoded_fact f = 80 ∷ 70 ∷ f.kind ∷ f.first ∷ f.second ∷ f.third ∷ []
-
-abbrev pub encoded_facts : List Fact → List ℕ
-encoded_facts [] = []
-encoded_facts (f ∷ facts) = encoded_fact f ++ encoded_facts facts
+use Rattle.layout.specs.declared.Group.TheVariants.{Factory}
+use Rattle.layout.specs.Layout.{layout, encoded_facts, marked, fact_in}
 
 -- the bytes are whole, lawful factory records, no fact twice, at most 65,536: those of the facts, in their order
 pub record Sound (bytes : List ℕ) (facts : List Fact) : Type 0 where
-  pub records : bytes ≡ encoded_facts facts
+  pub records : bytes ≡ encoded_facts Factory facts
   pub means : Meaning facts 0
 
 -- the part is sound, stands at the front of the bytes, and no longer front part is sound
@@ -23,24 +17,16 @@ pub record LongestSound (bytes part : List ℕ) (facts : List Fact) : Type 0 whe
   pub front : part ≡ take (length part) bytes
   pub longest : (other rest : List ℕ) (others : List Fact) → bytes ≡ other ++ rest → Sound other others → length other ≤ length part
 
--- the fact of a record
-abbrev pub fact_of : List ℕ → Fact
-fact_of r = record { kind = slice_index r 2; first = slice_index r 3; second = slice_index r 4; third = slice_index r 5 }
-
--- does a record begin with the mark?
-abbrev pub marked : List ℕ → Bool
-marked r = slice_index r 0 == 80 && slice_index r 1 == 70
-
 -- is a record marked, lawful, and its fact none of those?
 abbrev pub good : List ℕ → List Fact → Bool
-good r facts = marked r && (lawful_fact (fact_of r) && not (listed facts (fact_of r)))
+good r facts = marked Factory r && (lawful_fact (fact_in r) && not (listed facts (fact_in r)))
 
 -- the record at a place counted from 0, and its fact
 abbrev pub record_at : List ℕ → ℕ → List ℕ
-record_at bytes i = take 6 (drop (6 * i) bytes)
+record_at bytes i = take (layout Factory).size (drop ((layout Factory).size * i) bytes)
 
 abbrev pub fact_at : List ℕ → ℕ → Fact
-fact_at bytes i = fact_of (record_at bytes i)
+fact_at bytes i = fact_in (record_at bytes i)
 
 -- the facts of the first n records
 abbrev pub facts_in : ℕ → List ℕ → List Fact
@@ -58,15 +44,15 @@ good_to (suc n) i bytes = cond (good_at bytes i) (good_to n (suc i) bytes) i
 
 -- the number of good records at the front of the bytes, at most 65,536
 abbrev pub sound_count : List ℕ → ℕ
-sound_count bytes = good_to (min (length bytes / 6) 65536) 0 bytes
+sound_count bytes = good_to (min (length bytes / (layout Factory).size) 65536) 0 bytes
 
 -- the bytes and the facts of those records
 abbrev pub sound_part : List ℕ → List ℕ
-sound_part bytes = take (6 * sound_count bytes) bytes
+sound_part bytes = take ((layout Factory).size * sound_count bytes) bytes
 
 abbrev pub sound_facts : List ℕ → List Fact
 sound_facts bytes = facts_in (sound_count bytes) bytes
 
 -- the bytes are exactly the records of their facts
 abbrev pub ImageValid : List ℕ → Type 0
-ImageValid bytes = Sound bytes (facts_in (length bytes / 6) bytes)
+ImageValid bytes = Sound bytes (facts_in (length bytes / (layout Factory).size) bytes)
