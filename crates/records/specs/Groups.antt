@@ -11,7 +11,7 @@ use Rattle.layout.specs.declared.Group.{Group}
 use Rattle.layout.specs.declared.Group.TheVariants.{Rule, Factory, Site}
 use Rattle.layout.specs.Layout.{layout, marked, whole, fact_in}
 use Rattle.image.specs.Images.{image_facts}
-use Rattle.image.specs.Layout.{facts_in}
+use Rattle.image.specs.SoundParts.{facts_in}
 use Rattle.image.specs.declared.store.ImageStore.{ImageStore}
 use Rattle.records.specs.declared.Fault.{Fault}
 use Rattle.records.specs.declared.rules.RuleGroup.{RuleGroup}
