@@ -1,5 +1,5 @@
 -- Sheets: what they hold, and what the questions on them ask.
-use Rattle.std.specs.Prelude.{◌≡◌, ◌⊎◌, ℕ, Bool, true, false, List, [], ◌∷◌, ◌++◌, Some, None, Ok, Err, Result, codes, decimal, nat_lt, ◌==◌}
+use Rattle.std.specs.Prelude.{◌≡◌, ◌⊎◌, ℕ, Bool, true, false, List, [], ◌∷◌, Some, None, Ok, Err, Result, nat_lt, ◌==◌}
 use denote.Bor.{Bor}
 use Rattle.terms.specs.declared.refusal.Refusal.{Refusal}
 use Rattle.terms.specs.declared.refusal.Refusal.TheVariants.{NotJudged, NotStanding, NotClashing}
@@ -14,7 +14,7 @@ use Rattle.judge.specs.declared.sheet.Judgement.{Judgement}
 use Rattle.judge.specs.declared.sheet.Sheet.{Sheet}
 use Rattle.judge.specs.declared.reach.Reached.{Reached}
 use Rattle.judge.specs.declared.reach.Reached.TheVariants.{Part, Unnamed}
-use Rattle.judge.specs.Verdicts.{saying, word, low}
+use Rattle.judge.specs.Verdicts.{report_text, word, low}
 
 -- the completed facts and class steps that were found
 abbrev pub tables : Judgement → Tables
@@ -30,7 +30,7 @@ abbrev pub word_of : Judgement → List ℕ
 word_of j = word j.verdict j.letters
 
 abbrev pub report_of : Judgement → List ℕ
-report_of j = codes "rules" ++ ((32 ∷ decimal j.rows) ++ (codes "\nfacts" ++ ((32 ∷ decimal j.facts) ++ (codes "\n" ++ (saying j.verdict).line (word_of j)))))
+report_of j = report_text j.rows j.facts j.verdict (word_of j)
 
 -- 8: has the sheet been judged? 9: was it found that the book stands? 10: was a clash found?
 abbrev pub is_judged : Sheet → Bool

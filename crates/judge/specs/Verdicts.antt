@@ -29,6 +29,10 @@ saying (Clash k) = record {
   line = λ w. codes "clash part" ++ ((32 ∷ decimal k.part) ++ (codes " row" ++ ((32 ∷ decimal k.row) ++ (codes " word" ++ (numbers w ++ codes "\n")))));
 }
 
+-- the lines of a report: the number of rows, the number of facts, and the verdict with its word
+abbrev pub report_text : ℕ → ℕ → Verdict → List ℕ → List ℕ
+report_text rows facts v w = codes "rules" ++ ((32 ∷ decimal rows) ++ (codes "\nfacts" ++ ((32 ∷ decimal facts) ++ (codes "\n" ++ (saying v).line w))))
+
 -- the word of the verdict, the first of the letters
 abbrev pub word : Verdict → List ℕ → List ℕ
 word v letters = take (saying v).size letters

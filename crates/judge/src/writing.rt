@@ -19,7 +19,7 @@ fn write_front(front: &mut [u8], text: &[u8])
 }
 
 // Writes the text from the place on, or is refused where the place is past the end or the text does not fit.
-fn write_at(out: &mut [u8], place: usize, text: &[u8]) -> Result<usize, Refusal>
+pub fn write_at(out: &mut [u8], place: usize, text: &[u8]) -> Result<usize, Refusal>
     ensures { Writes [] text.now place out.old out.new result }
 {
     if place > out.len() || text.len() > out.len() - place {
@@ -96,9 +96,10 @@ impl Sheet {
         write_at(out, place, letters)
     }
 
-    // The lines of the report from the place on; answers how many bytes there are.
+    // The lines of the report from the place on; answers how many bytes there are, at most 6,400.
     pub fn report(&self, out: &mut [u8], place: usize) -> Result<usize, Refusal>
-        ensures { Writes (report_questions self.now) (report_on self.now) place out.old out.new result }
+        ensures writes { Writes (report_questions self.now) (report_on self.now) place out.old out.new result }
+        ensures short { length (report_on self.now) ≤ 6400 }
     {
         let judgement = self.judged()?;
         write_at(out, place, judgement.report().as_slice())
