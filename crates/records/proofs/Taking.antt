@@ -1,5 +1,5 @@
 -- Taking a record: the book with it is lawful, and its encoding goes on by the record's bytes.
-use Rattle.std.proofs.Common.{◌≡◌, ℕ, ◌+◌, ◌-◌, ◌*◌, ◌<◌, ◌≤◌, min, Bool, true, false, cond, not, ◌||◌, eqb, ltb, List, [], ◌∷◌, ◌++◌, length, drop, Ok, Some, Option, sym, refl, ap, ◌∙◌, subst, inl, inr, append_assoc, append-nil, arith}
+use Rattle.std.proofs.Common.{◌≡◌, ℕ, ◌+◌, ◌<◌, ◌≤◌, Bool, true, false, cond, not, ◌||◌, eqb, ltb, List, [], ◌∷◌, ◌++◌, length, drop, Ok, Some, Option, sym, refl, ap, ◌∙◌, subst, inl, inr, append_assoc, append-nil, arith}
 use mathlib.Core.List.Memᴰ
 use Rattle.std.proofs.lemmas.List.{length-append, length_push, nil_from_length}
 use Rattle.std.proofs.lemmas.Bool.{and_parts, not-true, eqb-true, leb-true, ltb-true}
@@ -17,7 +17,7 @@ use Rattle.layout.specs.declared.Group.{Group}
 use Rattle.layout.specs.declared.Group.TheVariants.{Rule, Factory, Site}
 use Rattle.layout.specs.Layout.{layout, encoded_row, encoded_rows, encoded_fact, encoded_facts, marked, whole, row_in, fact_in}
 use Rattle.layout.proofs.Records.{row_forth, fact_forth, facts_length, rows_more, facts_more}
-use Rattle.records.specs.Books.{PartBook, told, facts_of, places_left, records_in, encoded_book, Four, Lawful, InGroups}
+use Rattle.records.specs.Books.{PartBook, told, facts_of, places_left, encoded_book, Four, Lawful, InGroups}
 use Rattle.records.specs.Reading.{may_follow, next_group, own_questions, mark_questions, next_questions, with_record}
 use Rattle.records.proofs.Stepping.{next_is}
 
