@@ -1,5 +1,6 @@
 -- How files are read, record by record, and the law of their layout.
 pub mod Stepping
+pub mod Whole
 pub mod Chunks
 pub mod Taking
 pub mod Past
