@@ -3,5 +3,6 @@ pub mod Stepping
 pub mod Whole
 pub mod Chunks
 pub mod Taking
+pub mod Forward
 pub mod Past
 pub mod Law
