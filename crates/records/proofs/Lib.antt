@@ -2,6 +2,7 @@
 pub mod Stepping
 pub mod Whole
 pub mod Chunks
+pub mod Images
 pub mod Taking
 pub mod Forward
 pub mod Past
