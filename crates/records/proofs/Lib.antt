@@ -2,6 +2,7 @@
 pub mod Stepping
 pub mod Chunks
 pub mod Sites
+pub mod Ending
 pub mod Taking
 pub mod Past
 pub mod Law
