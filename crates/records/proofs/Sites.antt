@@ -1,25 +1,25 @@
 -- Telling the facts of site records, one after another.
-use Rattle.std.proofs.Common.{◌≡◌, ℕ, suc, ◌+◌, ◌-◌, ◌*◌, ◌/◌, ◌<◌, ◌≤◌, min, Bool, true, false, cond, not, eqb, List, [], ◌∷◌, ◌++◌, length, take, drop, OnOk, Ok, Err, Some, Option, Result, sym, refl, ap, ◌∙◌, subst, append-nil, append_assoc, add-one, arith}
+use Rattle.std.proofs.Common.{◌≡◌, ℕ, ◌+◌, ◌-◌, ◌*◌, ◌/◌, ◌<◌, ◌≤◌, min, Bool, true, false, cond, not, eqb, List, [], ◌∷◌, ◌++◌, length, take, drop, OnOk, Ok, Err, Some, Option, Result, sym, refl, ap, ◌∙◌, subst, append-nil, append_assoc, add-one, arith}
 use mathlib.Core.List.Memᴰ
 use Rattle.std.proofs.lemmas.List.{length-append, length-drop, length_push, length-take-le, drop-drop, drop_at, nil_from_length}
 use Rattle.std.proofs.lemmas.Bool.{ne_eqb, leb-true}
 use Rattle.terms.specs.declared.fact.Fact.{Fact}
 use Rattle.terms.specs.declared.refusal.Refusal.{Refusal}
-use Rattle.terms.specs.Refusals.{Question, ask, asked, done, number}
+use Rattle.terms.specs.Refusals.{ask, asked, number}
 use Rattle.terms.proofs.Asking.{answers}
 use Rattle.stores.specs.Meaning.{listed, tell_questions}
 use Rattle.stores.specs.Piles.{free_over}
 use Rattle.layout.specs.declared.Group.{Group}
-use Rattle.layout.specs.declared.Group.TheVariants.{Rule, Factory, Site}
+use Rattle.layout.specs.declared.Group.TheVariants.{Site}
 use Rattle.layout.specs.Layout.{marked, whole, fact_in}
 use Rattle.layout.proofs.Records.{mark_two}
 use Rattle.image.specs.SoundParts.{facts_in}
 use Rattle.image.proofs.Reading.{facts_count}
-use Rattle.records.specs.Faults.{Refused, refused}
+use Rattle.records.specs.Faults.{Refused}
 use Rattle.records.specs.declared.Fault.{Fault}
 use Rattle.records.specs.Books.{PartBook, told, facts_of, places_left, records_in}
 use Rattle.records.specs.Reading.{next_group, mark_questions, next_questions, with_record, read_after, all_groups}
-use Rattle.records.specs.Groups.{past, Ends, Onward, RefusedAfter, with_site, SiteRead, SiteTold}
+use Rattle.records.specs.Groups.{past, Onward, RefusedAfter, with_site, SiteRead, SiteTold}
 use Rattle.records.proofs.Stepping.{after_refused, after_taken, next_in}
 use Rattle.records.proofs.Chunks.{front_marked, front_whole, front_fact, chunk_is}
 
@@ -37,6 +37,7 @@ told_grows facts (f ∷ more) = by (listed facts f) (told_grows (cond (listed fa
     by true h = h
     by false h = let l = length_push facts f in omega arith
 
+-- as many places fewer as facts more
 fewer_places : (own n m : ℕ) → own ≤ n → n ≤ m → free_over (m - own) m ≡ free_over (n - own) n - (m - n)
 fewer_places own n m h k = omega arith
 
@@ -195,7 +196,7 @@ module _ (bytes : List ℕ) (facts : List Fact) (room : ℕ) (size : ℕ) (rest 
     module _ (r : Result (Unit {0}) Refusal) (facts' : List Fact) (room' : ℕ) (m : true ≡ marked Site chunk) (t : SiteTold chunk now free r facts' room') where
       told_there : (x : Result (Unit {0}) Refusal) → r ≡ x → SiteTold (past Site k bytes) now free x facts' room'
       told_there x e =
-          subst (λ (x : Result (Unit {0}) Refusal). SiteTold (past Site k bytes) now free x facts' room') e
+          subst (λ (y : Result (Unit {0}) Refusal). SiteTold (past Site k bytes) now free y facts' room') e
           (front_told (past Site k bytes) now free r facts' room' (subst (λ (z : List ℕ). SiteTold z now free r facts' room') chunk_there t))
 
       pub turn_refused : (first : ℕ) (f : Fault) → f.index ≡ first + k → r ≡ Err f.refusal → SiteRead bytes first facts room facts' (Err f)

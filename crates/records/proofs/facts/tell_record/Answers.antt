@@ -1,11 +1,10 @@
 -- The answer of tell, without its word, and the list after it.
-use Rattle.std.proofs.Common.{◌≡◌, ℕ, ◌+◌, ◌-◌, Bool, true, false, cond, List, [], ◌∷◌, ◌++◌, length, replicate, Ok, Err, Result, sym, refl, ap, ◌∙◌, subst, append-nil, arith}
-use Rattle.std.specs.Prelude.{codes}
+use Rattle.std.proofs.Common.{◌≡◌, ℕ, ◌+◌, ◌-◌, Bool, true, false, cond, List, [], ◌∷◌, ◌++◌, length, replicate, Ok, Err, sym, refl, ap, ◌∙◌, append-nil, arith}
 use Rattle.std.proofs.lemmas.List.{length-append, length-replicate}
 use Rattle.std.proofs.lemmas.Result.{err_from_is_err_and}
 use Rattle.terms.specs.declared.fact.Fact.{Fact}
 use Rattle.terms.specs.declared.refusal.Refusal.{Refusal}
-use Rattle.terms.specs.Refusals.{Question, ask, asked, done, number}
+use Rattle.terms.specs.Refusals.{ask, asked, number}
 use Rattle.terms.proofs.Asking.{asked_on, asked_no, own_value}
 use Rattle.stores.specs.declared.told.Told.{Told}
 use Rattle.stores.specs.declared.told.Told.TheVariants.{Added, Already}
@@ -16,17 +15,17 @@ use Rattle.records.specs.Books.{told}
 use Rattle.records.specs.Groups.{SiteTold}
 use Rattle.records.proofs.facts.tell_record.Goals as goal
 
--- the record is whole, and its fact was told
+-- a record that was read is whole, and its fact is that of the bytes
 whole_record : (w : Bool) (f g : Fact) → Ok f ≡ asked (ask 12 w ∷ []) g → (w ≡ true) × (f ≡ g)
 whole_record true f g e = (refl, cc)
 whole_record false f g e = absurd cc
 
 -- a fact is put at the end of the list unless it is listed already
 word_told : (facts : List Fact) (f : Fact) (t : Told) (b : Bool) → (saying t).word ≡ answer_accepted b → facts ++ replicate (saying t).places f ≡ cond b facts (facts ++ f ∷ [])
-word_told facts f Added true e = (let z : ◌≡◌ {A = ℕ} 100 108 = cc in absurd (omega arith))
+word_told facts f Added true e = absurd cc
 word_told facts f Added false e = refl
 word_told facts f Already true e = append-nil facts
-word_told facts f Already false e = (let z : ◌≡◌ {A = ℕ} 100 108 = cc in absurd (omega arith))
+word_told facts f Already false e = absurd cc
 
 module _ (bytes : List ℕ) (facts facts' : List Fact) (room room' : ℕ) (f : Fact) (w : Ok f ≡ asked (ask 12 (whole Site bytes) ∷ []) (fact_in bytes)) where
   -- the questions of the record are those of tell
@@ -50,7 +49,7 @@ module _ (bytes : List ℕ) (facts facts' : List Fact) (room room' : ℕ) (f : F
       let o = own_value qs (accepted_as facts f) (saying a).word q in
       let word : (saying a).word ≡ accepted_as facts f = (let z = sym q ∙ o in cc) in
       let l : length facts' ≡ length facts + (saying a).places =
-          ap length t.list ∙ length-append facts (replicate (saying a).places f) ∙ ap (λ (n : ℕ). length facts + n) (length-replicate (saying a).places f) in
+      ap length t.list ∙ length-append facts (replicate (saying a).places f) ∙ ap (λ (n : ℕ). length facts + n) (length-replicate (saying a).places f) in
       let n : (saying a).places ≡ length facts' - length facts = omega arith in
       record {
         answer = sym (questions ∙ asked_on qs [] (accepted_as facts f) (tt {0}) o);

@@ -1,4 +1,3 @@
-use Rattle.std.proofs.Common.{◌≡◌}
 use Rattle.std.specs.Slice.Iter.{chunks_rest, chunks_size}
 use Rattle.records.proofs.Sites.{Underway}
 use Rattle.records.proofs.facts.tell_site.Given as goal
