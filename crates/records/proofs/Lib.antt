@@ -3,6 +3,8 @@ pub mod Stepping
 pub mod Whole
 pub mod Chunks
 pub mod Images
+pub mod Sites
+pub mod Ending
 pub mod Taking
 pub mod Forward
 pub mod Past
