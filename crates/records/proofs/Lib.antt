@@ -1,6 +1,7 @@
 -- How files are read, record by record, and the law of their layout.
 pub mod Stepping
 pub mod Chunks
+pub mod Rows
 pub mod Ending
 pub mod Taking
 pub mod Past
