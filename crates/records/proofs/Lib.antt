@@ -4,6 +4,7 @@ pub mod Whole
 pub mod Chunks
 pub mod Images
 pub mod Sites
+pub mod Rows
 pub mod Ending
 pub mod Taking
 pub mod Forward
