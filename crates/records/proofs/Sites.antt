@@ -21,12 +21,8 @@ use Rattle.records.specs.Books.{PartBook, told, facts_of, places_left, records_i
 use Rattle.records.specs.Reading.{next_group, mark_questions, next_questions, with_record, read_after, all_groups}
 use Rattle.records.specs.Groups.{past, Onward, RefusedAfter, with_site, SiteRead, SiteTold}
 use Rattle.records.proofs.Stepping.{after_refused, after_taken, next_in}
+use Rattle.records.proofs.Taking.{told_more}
 use Rattle.records.proofs.Chunks.{front_marked, front_whole, front_fact, chunk_is}
-
--- one fact more is told after the others
-pub told_more : (facts more : List Fact) (f : Fact) → told facts (more ++ f ∷ []) ≡ told (told facts more) (f ∷ [])
-told_more facts [] f = refl
-told_more facts (g ∷ more) f = told_more (cond (listed facts g) facts (facts ++ g ∷ [])) more f
 
 -- telling makes no list shorter
 told_grows : (facts more : List Fact) → length facts ≤ length (told facts more)
