@@ -20,12 +20,12 @@ use Rattle.records.proofs.Chunks.{front_marked, front_whole, front_row, chunk_is
 use Rattle.records.proofs.Stepping.{after_refused, after_taken, next_in}
 
 -- whether a call is done is what its questions say, whatever value it answers
-pub asked_done : {A : Type 0} (qs : List Question) (x : A) (r : Result A Refusal) → numbered r ≡ asked qs x → done r ≡ asked qs (tt {0})
+asked_done : {A : Type 0} (qs : List Question) (x : A) (r : Result A Refusal) → numbered r ≡ asked qs x → done r ≡ asked qs (tt {0})
 asked_done qs x (Ok v) e = sym (all_yes tt qs ((answers x qs (asked qs x) refl).accepted.0 (own_value qs x v (sym e))))
 asked_done {A = A} qs x (Err f) e = sym (((answers tt qs (asked qs (tt {0})) refl).refused (number f)).1 (((answers x qs (numbered {A = A} (Err f)) e).refused (number f)).0 refl))
 
 -- is a record whose mark stands there whole, and then its own questions
-abbrev pub after_mark : Group → PartBook → List ℕ → List Question
+abbrev after_mark : Group → PartBook → List ℕ → List Question
 after_mark g b bytes = ask 12 (whole g bytes) ∷ own_questions g b bytes
 
 module _ (groups : List Group) (b : PartBook) (bytes : List ℕ) (g : Group) (next : next_group groups b bytes ≡ Some g) (mark : marked g bytes ≡ true) where
@@ -36,7 +36,7 @@ module _ (groups : List Group) (b : PartBook) (bytes : List ℕ) (g : Group) (ne
       ∙ ap (λ (t : Bool). asked (ask 12 (not t) ∷ mark_questions (Some g) b bytes) (tt {0})) (ne_eqb (length bytes) 1 (λ e. omega arith))
 
   -- reading on after a record whose mark stands there
-  pub marked_turn : (a : Result (Unit {0}) ℕ) → a ≡ asked (after_mark g b bytes) (tt {0})
+  marked_turn : (a : Result (Unit {0}) ℕ) → a ≡ asked (after_mark g b bytes) (tt {0})
       → read_after groups b bytes ≡ onward (at_record (records_in b) a) (λ _. read_after groups (with_record (Some g) b bytes) (drop (layout g).size bytes))
   marked_turn (Ok u) e = let two = mark_two g bytes mark in after_taken groups b bytes g (omega arith) next (asks ∙ sym e)
   marked_turn (Err n) e = let two = mark_two g bytes mark in after_refused groups b bytes n (omega arith) (asks ∙ sym e)
