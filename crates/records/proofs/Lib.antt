@@ -4,3 +4,4 @@ pub mod Chunks
 pub mod Taking
 pub mod Past
 pub mod Law
+pub mod Chain
