@@ -1,7 +1,9 @@
 -- How files are read, record by record, and the law of their layout.
 pub mod Stepping
+pub mod Whole
 pub mod Chunks
 pub mod Taking
+pub mod Forward
 pub mod Past
 pub mod Law
 pub mod Chain
