@@ -2,6 +2,8 @@
 pub mod Stepping
 pub mod Whole
 pub mod Chunks
+pub mod Rows
+pub mod Ending
 pub mod Taking
 pub mod Forward
 pub mod Past

@@ -1,27 +1,39 @@
-use Rattle.std.proofs.Common.{rules, ◌≡◌, ◌∷◌, length, ℕ, ◌+◌, ◌-◌, ◌*◌, ◌<◌, ◌≤◌, ◌/◌, ◌%◌, Bool, true, false, nat_eq, nat_lt, List, [], ◌++◌, slice_index_or, slice_set, bit_and, bit_or, Fits, w8, w32, w64, Bor, MutBor}
-use Rattle.terms.specs.Refusals.{ask, asked, numbered}
-use Rattle.book.specs.Drafts.{grown, listed, rule_questions}
-use Rattle.layout.specs.declared.Group.TheVariants.{Rule}
-use Rattle.layout.specs.Layout.{row_in, whole}
-use Rattle.records.specs.Groups.{RulesRead}
+use Rattle.std.proofs.Common.{◌≡◌, ℕ, Ok, Err, rules, sym, ap, ◌∙◌}
+use Rattle.std.proofs.lemmas.Result.{err_from_is_err_and}
+use Rattle.terms.specs.Refusals.{done}
+use Rattle.book.specs.Drafts.{listed}
+use Rattle.records.specs.Faults.{at_record, refused}
+use Rattle.records.proofs.Rows.{underway_none, turn_none, chunk_marked, turn_faults, turn_takes}
 use Rattle.records.proofs.rules.read_rules.Goals as goal
 
--- src/rules.rt:36:5
 pub loop-index-init : goal.loop-index-init
-loop-index-init c = ?
+loop-index-init c = rw (c.into_iter-index-iterator.ensures.into_iter_gives, c.enumerate-index-items.ensures.source, c.enumerate-index-items.ensures.count, c.chunks.ensures.rest, c.chunks.ensures.size, c.new-draft.ensures) (underway_none c.args.bytes.now _ c.size-size.ensures)
 
--- src/rules.rt:38:13
 pub returns-then-not-marks : goal.returns-then-not-marks
-returns-then-not-marks c = ?
+returns-then-not-marks c =
+    let s = c.in-Some.ensures.steps in
+    let u = c.loop-index.invariant in
+    let m = c.if-not-marks.ensures ∙ chunk_marked _ _ _ _ _ u c.in-Some.record.now _ s.0.1.0 s.0.1.1 in
+    rw s.1 (u.counted, record { inside = u.inside; unmarked = sym m }, u.left)
 
--- src/rules.rt:36:5
 pub loop-index-preserved : goal.loop-index-preserved
-loop-index-preserved c = ?
+loop-index-preserved c =
+    let s = c.in-Some.ensures.steps in
+    let there : Ok tt ≡ at_record c.loop-index.index-iterator.count (done c.take_rule.result) = search rules in
+    rw (s.0.0, s.2) (turn_takes _ _ _ _ _ c.loop-index.invariant c.in-Some.record.now _ s.0.1.0 s.0.1.1 c.take_rule.result c.if-not-marks.ensures c.take_rule.ensures.answer
+    (listed c.take_rule.new.draft) there c.take_rule.ensures.after)
 
--- src/rules.rt:43:9
 pub returns-in_err-map_err : goal.returns-in_err-map_err
-returns-in_err-map_err c = ?
+returns-in_err-map_err c =
+    let s = c.in-Some.ensures.steps in
+    let p = err_from_is_err_and c.from_residual.result c.from_residual.ensures.1 in
+    let f = c.in_err-map_err.field-0.0 in
+    let there : Err (refused f) ≡ at_record c.in-Some.index (done c.take_rule.result) = search rules in
+    rw (p.1, p.2) (turn_faults _ _ _ _ _ c.loop-index.invariant c.in-Some.record.now _ s.0.1.0 s.0.1.1 c.take_rule.result c.if-not-marks.ensures c.take_rule.ensures.answer
+    _ (there ∙ ap (λ (k : ℕ). at_record k (done c.take_rule.result)) s.1))
 
--- src/rules.rt:31:1
 pub returns : goal.returns
-returns c = ?
+returns c =
+    let u = c.loop-index.invariant in
+    let e = turn_none _ _ _ _ _ u c.in-None.ensures.steps.0.1.0 in
+    rw (c.size-size.ensures, e.0) (u.counted, record { inside = u.inside; unmarked = e.1 }, u.left)
