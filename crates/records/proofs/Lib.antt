@@ -4,6 +4,7 @@ pub mod Whole
 pub mod Chunks
 pub mod Rows
 pub mod Ending
+pub mod Images
 pub mod Taking
 pub mod Forward
 pub mod Past
