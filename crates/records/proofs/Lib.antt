@@ -3,6 +3,7 @@ pub mod Stepping
 pub mod Whole
 pub mod Chunks
 pub mod Rows
+pub mod Sites
 pub mod Ending
 pub mod Images
 pub mod Taking

@@ -1,36 +1,41 @@
-use Rattle.std.proofs.Common.{rules, ◌≡◌, ◌+◌, ◌<◌, length, ℕ, ◌-◌, ◌*◌, ◌≤◌, ◌/◌, ◌%◌, Bool, true, false, nat_eq, nat_lt, List, [], ◌∷◌, ◌++◌, slice_index_or, slice_set, bit_and, bit_or, Fits, w8, w32, w64, Bor, MutBor}
-use Rattle.terms.specs.Refusals.{asked, done}
-use Rattle.records.specs.Groups.{FactoryRead, SiteRead, SiteTold, after_image_questions}
+use Rattle.std.proofs.Common.{◌≡◌, ℕ, ◌+◌, Ok, Err, rules, ap, ◌∙◌}
+use Rattle.std.proofs.lemmas.Result.{err_from_is_err_and}
+use Rattle.records.proofs.Sites.{underway_none, turn_none, turn_ends, turn_refused, turn_told}
 use Rattle.records.proofs.facts.tell_site.Goals as goal
 
--- src/facts.rt:59:5
 pub loop-place-init : goal.loop-place-init
-loop-place-init g c = ?
+loop-place-init g c = record {
+  valid = c.requires.valid;
+  underway =
+      rw (c.into_iter-place-iterator.ensures.into_iter_gives, c.enumerate-place-items.ensures.source, c.enumerate-place-items.ensures.count, c.chunks.ensures.rest, c.chunks.ensures.size, c.size-size.ensures)
+      (underway_none c.args.bytes.now (g.S.Store.facts c.args.store.now) (g.S.Store.room c.args.store.now));
+}
 
--- src/facts.rt:61:13
-pub returns-then-not-marks-clause-stays : goal.returns-then-not-marks-clause-stays
-returns-then-not-marks-clause-stays g c = ?
-
--- src/facts.rt:61:13
 pub returns-then-not-marks-clause-told : goal.returns-then-not-marks-clause-told
-returns-then-not-marks-clause-told g c = ?
+returns-then-not-marks-clause-told g c =
+    let s = c.in-Some.ensures.steps in
+    rw s.1 (turn_ends _ _ _ _ _ _ _ _ c.loop-place.invariant.underway c.in-Some.record.now _ s.0.1.0 s.0.1.1 c.args.first c.if-not-marks.ensures)
 
--- src/facts.rt:63:9
-pub tell_record-requires : goal.tell_record-requires
-tell_record-requires g c = ?
-
--- src/facts.rt:59:5
 pub loop-place-preserved : goal.loop-place-preserved
-loop-place-preserved g c = ?
+loop-place-preserved g c =
+    let s = c.in-Some.ensures.steps in
+    let there : c.tell_record.result ≡ Ok tt = search rules in
+    rw (s.0.0, s.2) (record {
+      valid = c.tell_record.ensures.stays;
+      underway = turn_told _ _ _ _ _ _ _ _ c.loop-place.invariant.underway c.in-Some.record.now _ s.0.1.0 s.0.1.1 c.tell_record.result _ _ c.if-not-marks.ensures c.tell_record.ensures.told there;
+    })
 
--- src/facts.rt:63:9
 pub returns-in_err-map_err-clause-told : goal.returns-in_err-map_err-clause-told
-returns-in_err-map_err-clause-told g c = ?
+returns-in_err-map_err-clause-told g c =
+    let s = c.in-Some.ensures.steps in
+    let p = err_from_is_err_and c.from_residual.result c.from_residual.ensures.1 in
+    let f = c.in_err-map_err.field-0.0 in
+    let there : c.tell_record.result ≡ Err f.refusal = search rules in
+    let place : f.index ≡ c.args.first + c.in-Some.place = search rules in
+    rw (p.1, p.2) (turn_refused _ _ _ _ _ _ _ _ c.loop-place.invariant.underway c.in-Some.record.now _ s.0.1.0 s.0.1.1 c.tell_record.result _ _ c.if-not-marks.ensures c.tell_record.ensures.told
+    c.args.first f (place ∙ ap (λ (k : ℕ). c.args.first + k) s.1) there)
 
--- src/facts.rt:52:1
-pub returns-clause-stays : goal.returns-clause-stays
-returns-clause-stays g c = ?
-
--- src/facts.rt:52:1
 pub returns-clause-told : goal.returns-clause-told
-returns-clause-told g c = ?
+returns-clause-told g c =
+    let s = c.in-None.ensures.steps in
+    turn_none _ _ _ _ _ _ _ _ c.loop-place.invariant.underway c.args.first c.size-size.result c.size-size.ensures s.0.1.0
