@@ -1,5 +1,5 @@
 -- Reading a whole book: its groups one after another.
-use Rattle.std.proofs.Common.{◌≡◌, ℕ, zero, suc, ◌+◌, ◌-◌, ◌*◌, ◌<◌, Bool, true, false, cond, eqb, ltb, ◌&&◌, List, [], ◌∷◌, ◌++◌, length, take, drop, Ok, Err, Result, Some, None, Option, sym, refl, ap, ◌∙◌, arith}
+use Rattle.std.proofs.Common.{◌≡◌, ℕ, zero, suc, ◌+◌, ◌-◌, ◌*◌, false, ltb, List, [], ◌∷◌, length, take, drop, Ok, Err, Result, None, sym, refl, ap, ◌∙◌, arith}
 use Rattle.std.proofs.Math.Dec.{eqb-suc-zero}
 use Rattle.std.proofs.lemmas.List.{length-append, take_rest}
 use Rattle.terms.specs.declared.fact.Fact.{Fact}
@@ -11,38 +11,38 @@ use Rattle.layout.specs.declared.Group.{Group}
 use Rattle.layout.specs.declared.Group.TheVariants.{Rule, Factory, Site}
 use Rattle.layout.specs.Layout.{layout, marked}
 use Rattle.image.specs.Images.{image_facts}
-use Rattle.image.specs.SoundParts.{facts_in, fact_at}
+use Rattle.image.specs.SoundParts.{facts_in}
 use Rattle.image.specs.declared.store.ImageStore.{ImageStore}
 use Rattle.image.proofs.Reading.{facts_count}
 use Rattle.records.specs.declared.Fault.{Fault}
 use Rattle.records.specs.declared.rules.RuleGroup.{RuleGroup}
-use Rattle.records.specs.Faults.{Refused, refused, at_record, numbered_fault, onward}
+use Rattle.records.specs.Faults.{Refused, refused, at_record, onward}
 use Rattle.records.specs.Books.{PartBook, no_records, facts_of, places_left, records_in}
-use Rattle.records.specs.Reading.{may_follow, next_group, read_after, file_read, all_groups}
-use Rattle.records.specs.Groups.{past, Ends, RulesRead, FactoryRead, SiteRead, rows_alone, no_site, with_site, end_questions}
-use Rattle.records.proofs.Ending.{ended}
+use Rattle.records.specs.Reading.{next_group, read_after, file_read, all_groups}
+use Rattle.records.specs.Groups.{past, RulesRead, FactoryRead, SiteRead, rows_alone, no_site, with_site, end_questions}
 use Rattle.records.specs.Opened.{Content, said_by}
+use Rattle.records.proofs.Ending.{ended}
 
--- no group goes on after k site facts: no row and no factory fact may follow a site fact, no row may follow a factory fact, and no
--- mark of a group stands after the group's records
+-- no group goes on after k site facts: no row and no factory fact may follow a site fact, no row may follow a factory fact, and
+-- after the records of each group its mark does not stand
 module _ (rows : List Row) (bytes : List ℕ) (no_rule : marked Rule bytes ≡ false) where
   none_left : (facts : List Fact) (k : ℕ) → let site = past Factory (length facts) bytes in marked Factory site ≡ false → marked Site (past Site k site) ≡ false
       → next_group all_groups (with_site (no_site rows facts) k site) (past Site k site) ≡ None
   none_left [] zero f s = rw (no_rule, f, s)
   none_left [] (suc k) f s = rw (facts_count, eqb-suc-zero, s)
   none_left (e ∷ facts) zero f s = rw (eqb-suc-zero, f, s)
-  none_left (e ∷ facts) (suc k) f s = rw (facts_count, eqb-suc-zero, eqb-suc-zero, s)
+  none_left (e ∷ facts) (suc k) f s = simp (facts_count, eqb-suc-zero, s)
 
--- what is said of a book
+-- what is said of the book, where the end has an answer
 said : (r : Result (Unit {0}) Refused) (b : PartBook) (z : Content) → said_by b ≡ z → onward r (λ _. Ok z) ≡ onward (onward r (λ _. Ok b)) (λ b. Ok (said_by b))
 said (Ok u) b z e = ap Ok (sym e)
 said (Err f) b z e = refl
 
--- the bytes of a slice that begins after k records
+-- the bytes of the slice that begins after k records
 pub slice_past : (g : Group) (size k : ℕ) (bytes : List ℕ) → size ≡ (layout g).size → take (length bytes - size * k) (drop (size * k) bytes) ≡ past g k bytes
 slice_past g size k bytes e = take_rest bytes (size * k) ∙ ap (λ (n : ℕ). drop (n * k) bytes) e
 
--- a file is read up to its site records, the first of which has a number, and some facts are told before them and some places free
+-- a file is read up to its site records, of which the first has the number; before them these facts are told and so many places free
 pub record AtSite (bytes : List ℕ) (b : PartBook) (site : List ℕ) (first : ℕ) (facts : List Fact) (room : ℕ) : Type 0 where
   reads : file_read all_groups bytes ≡ read_after all_groups b site
   counted : records_in b ≡ first
@@ -72,7 +72,7 @@ at_site bytes short rules rows_read after after_is image facts_read site site_is
       last = rw site_is (λ k. none_left (listed rules.draft) after unmarked (image_facts image) k facts_read.0.unmarked);
     }
 
-module _ (bytes : List ℕ) (b : PartBook) (site : List ℕ) (first : ℕ) (facts : List Fact) (room : ℕ) (here : AtSite bytes b site first facts room) where
+module _ {bytes : List ℕ} {b : PartBook} {site : List ℕ} {first : ℕ} {facts : List Fact} {room : ℕ} (here : AtSite bytes b site first facts room) where
   -- a site record is refused
   pub site_refused : (f : Fault) → SiteRead site first facts room facts (Err f) → Err (refused f) ≡ onward (file_read all_groups bytes) (λ b. Ok (said_by b))
   site_refused f r =
