@@ -2,11 +2,12 @@
 pub mod Stepping
 pub mod Whole
 pub mod Chunks
-pub mod Images
-pub mod Sites
 pub mod Rows
-pub mod Ending
 pub mod Taking
+pub mod Sites
+pub mod Ending
 pub mod Forward
 pub mod Past
+pub mod Images
 pub mod Law
+pub mod Chain

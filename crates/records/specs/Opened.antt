@@ -12,17 +12,16 @@ use Rattle.records.specs.declared.opened.Opened.{Opened}
 use Rattle.records.specs.Faults.{Refused, refused}
 use Rattle.records.specs.Books.{PartBook, facts_of}
 
--- the rows of a book, the facts of its image, and the facts that are judged
+-- the rows of a book, and the facts that are judged
 pub record Content : Type 0 where
   pub rows : List Row
-  pub image : List Fact
   pub facts : List Fact
 
 abbrev pub said_by : PartBook → Content
-said_by b = record { rows = b.rows; image = b.factory; facts = facts_of b }
+said_by b = record { rows = b.rows; facts = facts_of b }
 
 abbrev pub content_of : Opened → Content
-content_of o = record { rows = rows_of o.book; image = image_facts o.store.below; facts = pile_facts image_facts o.store }
+content_of o = record { rows = rows_of o.book; facts = pile_facts image_facts o.store }
 
 -- what a reader of a book answers, and what a reader of rules alone answers
 abbrev pub book_answer : Result Opened Fault → Result Content Refused
