@@ -74,15 +74,15 @@ at_site bytes short rules rows_read after after_is image facts_read site site_is
 
 module _ {bytes : List ℕ} {b : PartBook} {site : List ℕ} {first : ℕ} {facts : List Fact} {room : ℕ} (here : AtSite bytes b site first facts room) where
   -- a site record is refused
-  pub site_refused : (f : Fault) → SiteRead site first facts room facts (Err f) → Err (refused f) ≡ onward (file_read all_groups bytes) (λ b. Ok (said_by b))
+  pub site_refused : (f : Fault) → SiteRead site first facts room facts room (Err f) → Err (refused f) ≡ onward (file_read all_groups bytes) (λ b. Ok (said_by b))
   site_refused f r =
       ap (λ (z : Result PartBook Refused). onward z (λ b. Ok (said_by b))) (sym (here.reads ∙ r b here.facts_before here.places here.counted))
 
   -- the site records are read, and the end of the file has an answer
-  pub book_read : (facts' : List Fact) (k : ℕ) → SiteRead site first facts room facts' (Ok k) → (rest : List ℕ) → rest ≡ past Site k site
+  pub book_read : (facts' : List Fact) (room' : ℕ) (k : ℕ) → SiteRead site first facts room facts' room' (Ok k) → (rest : List ℕ) → rest ≡ past Site k site
       → (r : Result (Unit {0}) Refused) → r ≡ at_record (first + k) (asked (end_questions rest) (tt {0}))
-      → onward r (λ _. let z : Content = record { rows = b.rows; facts = facts' } in Ok z) ≡ onward (file_read all_groups bytes) (λ b. Ok (said_by b))
-  book_read facts' k s rest rest_is r e =
+      → onward r (λ _. let z : Content = record { rows = b.rows; facts = facts'; places = room' } in Ok z) ≡ onward (file_read all_groups bytes) (λ b. Ok (said_by b))
+  book_read facts' room' k s rest rest_is r e =
       let c = with_site b k site in
       let told = s.1 b here.facts_before here.places in
       let l = length-append b.site (facts_in k site) in
@@ -90,5 +90,8 @@ module _ {bytes : List ℕ} {b : PartBook} {site : List ℕ} {first : ℕ} {fact
       let n : first + k ≡ records_in c = omega (arith, here.counted) in
       let a = e ∙ ap (λ (n : ℕ). at_record n (asked (end_questions rest) (tt {0}))) n ∙ ap (λ (z : List ℕ). at_record (records_in c) (asked (end_questions z) (tt {0}))) rest_is in
       let end = ended all_groups c (past Site k site) (here.last k s.0.unmarked) r a in
-      said r c _ (ap (λ (fs : List Fact). let z : Content = record { rows = b.rows; facts = fs } in z) told.0)
-      ∙ ap (λ (z : Result PartBook Refused). onward z (λ b. Ok (said_by b))) (sym (here.reads ∙ told.1 ∙ end))
+      let content : said_by c ≡ record { rows = b.rows; facts = facts'; places = room' } =
+      ap (λ (fs : List Fact). let z : Content = record { rows = b.rows; facts = fs; places = places_left c } in z) told.0
+      ∙ ap (λ (n : ℕ). let z : Content = record { rows = b.rows; facts = facts'; places = n } in z) told.1 in
+      said r c _ content
+      ∙ ap (λ (z : Result PartBook Refused). onward z (λ b. Ok (said_by b))) (sym (here.reads ∙ told.2 ∙ end))

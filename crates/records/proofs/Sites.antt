@@ -162,18 +162,18 @@ told_whole bytes facts room facts' room' t =
 module _ (bytes : List ℕ) (facts : List Fact) (room : ℕ) (size : ℕ) (rest : List ℕ) (k : ℕ) (now : List Fact) (free : ℕ)
     (u : Underway bytes facts room size rest k now free) where
   -- no record stands after the k
-  ended : (first : ℕ) → marked Site (past Site k bytes) ≡ false → SiteRead bytes first facts room now (Ok k)
-  ended first m = (record { inside = u.inside; unmarked = m }, λ b f r. (let g = u.reached b f r in (g.facts, g.onward)))
+  ended : (first : ℕ) → marked Site (past Site k bytes) ≡ false → SiteRead bytes first facts room now free (Ok k)
+  ended first m = (record { inside = u.inside; unmarked = m }, λ b f r. (let g = u.reached b f r in (g.facts, g.left, g.onward)))
 
   -- the bytes end
-  pub turn_none : (first n : ℕ) → n ≡ 6 → length rest ≡ 0 → SiteRead bytes first facts room now (Ok (length bytes / n))
+  pub turn_none : (first n : ℕ) → n ≡ 6 → length rest ≡ 0 → SiteRead bytes first facts room now free (Ok (length bytes / n))
   turn_none first n six none =
       let l = length-drop (6 * k) bytes in
       let e = ap length u.behind in
       let i = u.inside in
       let z : past Site k bytes ≡ [] = nil_from_length (past Site k bytes) (omega arith) in
       let d : k ≡ length bytes / 6 = omega arith in
-      subst (λ (i : ℕ). SiteRead bytes first facts room now (Ok i)) (d ∙ ap (λ (i : ℕ). length bytes / i) (sym six)) (ended first (ap (marked Site) z))
+      subst (λ (i : ℕ). SiteRead bytes first facts room now free (Ok i)) (d ∙ ap (λ (i : ℕ). length bytes / i) (sym six)) (ended first (ap (marked Site) z))
 
   module _ (chunk after : List ℕ) (cut : rest ≡ chunk ++ after) (long : length chunk ≡ min size (length rest)) where
     chunk_there : chunk ≡ take 6 (past Site k bytes)
@@ -185,7 +185,7 @@ module _ (bytes : List ℕ) (facts : List Fact) (room : ℕ) (size : ℕ) (rest 
     marked_there = ap (marked Site) chunk_there ∙ front_marked Site (past Site k bytes)
 
     -- no record stands there
-    pub turn_ends : (first : ℕ) → false ≡ marked Site chunk → SiteRead bytes first facts room now (Ok k)
+    pub turn_ends : (first : ℕ) → false ≡ marked Site chunk → SiteRead bytes first facts room now free (Ok k)
     turn_ends first m = ended first (sym (m ∙ marked_there))
 
     -- a record stands there, and the call that tells its fact has answered r
@@ -195,7 +195,7 @@ module _ (bytes : List ℕ) (facts : List Fact) (room : ℕ) (size : ℕ) (rest 
           subst (λ (y : Result (Unit {0}) Refusal). SiteTold (past Site k bytes) now free y facts' room') e
           (front_told (past Site k bytes) now free r facts' room' (subst (λ (z : List ℕ). SiteTold z now free r facts' room') chunk_there t))
 
-      pub turn_refused : (first : ℕ) (f : Fault) → f.index ≡ first + k → r ≡ Err f.refusal → SiteRead bytes first facts room facts' (Err f)
+      pub turn_refused : (first : ℕ) (f : Fault) → f.index ≡ first + k → r ≡ Err f.refusal → SiteRead bytes first facts room facts' room' (Err f)
       turn_refused first f i e b o p n =
           reached_refused b bytes k now free (u.reached b o p) (sym (m ∙ marked_there)) first f facts' room' i n (told_there (Err f.refusal) e)
 

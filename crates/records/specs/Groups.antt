@@ -60,13 +60,14 @@ FactoryRead bytes first (Ok s) =
     × ((rows : List Row) → Onward all_groups (rows_alone rows) bytes (no_site rows (image_facts s)) (past Factory (length (image_facts s)) bytes))
 FactoryRead bytes first (Err f) = (rows : List Row) → length rows ≡ first → RefusedAfter all_groups (rows_alone rows) bytes f
 
--- telling the facts of the site records at the front, after a book whose facts and free places are those of the store
-abbrev pub SiteRead : List ℕ → ℕ → List Fact → ℕ → List Fact → Result ℕ Fault → Type 0
-SiteRead bytes first facts room facts' (Ok k) =
+-- telling the facts of the site records at the front: before it the book's facts and free places are those of the store, and so they
+-- are after it
+abbrev pub SiteRead : List ℕ → ℕ → List Fact → ℕ → List Fact → ℕ → Result ℕ Fault → Type 0
+SiteRead bytes first facts room facts' room' (Ok k) =
     Ends Site k bytes
     × ((b : PartBook) → facts_of b ≡ facts → places_left b ≡ room
-        → (facts_of (with_site b k bytes) ≡ facts') × Onward all_groups b bytes (with_site b k bytes) (past Site k bytes))
-SiteRead bytes first facts room facts' (Err f) =
+    → (facts_of (with_site b k bytes) ≡ facts') × (places_left (with_site b k bytes) ≡ room') × Onward all_groups b bytes (with_site b k bytes) (past Site k bytes))
+SiteRead bytes first facts room facts' room' (Err f) =
     (b : PartBook) → facts_of b ≡ facts → places_left b ≡ room → records_in b ≡ first → RefusedAfter all_groups b bytes f
 
 -- the questions after the last group: no lone byte, and no mark that is not allowed

@@ -53,7 +53,7 @@ pub(crate) fn tell_site<S: Store>(store: &mut S, bytes: &[u8], first: usize) -> 
     requires valid { S.Store.valid store.old }
     requires few { first + length bytes.now < 32768 }
     ensures stays { S.Store.valid store.new }
-    ensures told { SiteRead bytes.now first (S.Store.facts store.old) (S.Store.room store.old) (S.Store.facts store.new) result }
+    ensures told { SiteRead bytes.now first (S.Store.facts store.old) (S.Store.room store.old) (S.Store.facts store.new) (S.Store.room store.new) result }
 {
     let size = Group::Site.size();
     for (place, record) in bytes.chunks(size).enumerate() {

@@ -43,12 +43,12 @@ returns-in_err-told c =
 pub returns-in_err-finish : goal.returns-in_err-finish
 returns-in_err-finish c =
     let p = err_from_is_err_and c.from_residual-in_err-finish.result c.from_residual-in_err-finish.ensures.1 in
-    let a = book_read (there (goal.at.returns-in_err-finish c).After-tell_site) _ c.in_ok-told.told c.in_ok-told.ensures.told
+    let a = book_read (there (goal.at.returns-in_err-finish c).After-tell_site) _ _ c.in_ok-told.told c.in_ok-told.ensures.told
     _ (slice_past Site c.size-3.result c.in_ok-told.told _ c.size-3.ensures) (Err (refused c.in_err-finish.field-0.0)) c.in_err-finish.ensures in
     rw (p.1, p.2) (record { answer = a; law = layout_law _ _ })
 
 pub returns : goal.returns
 returns c =
-    let a = book_read (there (goal.at.returns c).After-tell_site) _ c.in_ok-told.told c.in_ok-told.ensures.told
+    let a = book_read (there (goal.at.returns c).After-tell_site) _ _ c.in_ok-told.told c.in_ok-told.ensures.told
     _ (slice_past Site c.size-3.result c.in_ok-told.told _ c.size-3.ensures) (Ok tt) c.in_ok-finish.ensures in
     record { answer = rw c.seal.ensures a; law = layout_law _ _ }
