@@ -1,0 +1,2 @@
+-- What an audit writes, and what it says.
+pub mod Audits
