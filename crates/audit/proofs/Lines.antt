@@ -1,5 +1,5 @@
 -- Lines of text: the last one of a report or of a refusal, and what the line of a clash names.
-use Rattle.std.proofs.Common.{◌≡◌, ℕ, zero, suc, ◌+◌, ◌/◌, ◌%◌, ◌^◌, ◌<◌, ◌≤◌, Bool, true, false, not, cond, eqb, ltb, List, [], ◌∷◌, ◌++◌, length, get_or, drop, codes, decimal, refl, sym, ap, ◌∙◌, inl, inr, arith, append_assoc, length-append, pow-suc}
+use Rattle.std.proofs.Common.{◌≡◌, ℕ, zero, suc, ◌+◌, ◌/◌, ◌%◌, ◌^◌, ◌<◌, ◌≤◌, Bool, true, false, not, cond, eqb, ltb, List, [], ◌∷◌, ◌++◌, length, get_or, drop, codes, decimal, refl, sym, ap, ◌∙◌, inl, inr, arith, append_assoc, pow-suc}
 use Rattle.std.proofs.Math.Nat.{one-le-pow}
 use Rattle.std.specs.List.{list_all}
 use Rattle.std.specs.Fmt.{digit_glyph, digits_onto, digits}
@@ -160,9 +160,3 @@ clash_same p i q j w v part row l e =
     let first = number_tells p q _ _ part refl refl (ap (drop 11) e) in
     let next = number_tells i j _ _ row refl refl (ap (drop 5) first.1) in
     (first.0, next.0, numbers_tell w v l (ap (drop 5) next.1))
-
-pub refusal_short : (e : Refused) → e.number_of < 256 → e.index < 2 ^ 64 → length (fault_line e) ≤ 64
-refusal_short e p q =
-    let number = length-decimal-le 3 e.number_of (omega arith) (omega arith) (omega arith) in
-    let index = length-decimal-le 20 e.index (omega arith) (omega arith) q in
-    simp length-append (omega (arith, number, index))

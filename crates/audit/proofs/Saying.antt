@@ -1,11 +1,11 @@
 -- What the last line of an audit says.
-use Rattle.std.proofs.Common.{◌≡◌, ℕ, ◌+◌, Bool, true, false, cond, ◌↔◌, List, [], ◌∷◌, ◌++◌, length, take, drop, codes, Ok, Err, Result, IfOk, sym, ap, ◌∙◌, subst, refl, ◌<◌, ◌^◌, arith}
+use Rattle.std.proofs.Common.{◌≡◌, ℕ, ◌+◌, Bool, true, false, ◌↔◌, List, [], ◌∷◌, ◌++◌, length, take, drop, codes, Ok, Err, Result, IfOk, sym, ap, ◌∙◌, subst, refl, ◌<◌, ◌^◌, arith}
 use mathlib.Core.Logic.{∥∥₁_elim, ∥∥₁_map}
 use mathlib.Core.HLevel.{⊥_prop}
 use Rattle.std.proofs.lemmas.List.{take_at}
 use Rattle.search.specs.declared.Found.{Found}
 use Rattle.terms.specs.declared.refusal.Refusal.{Refusal}
-use Rattle.terms.specs.Refusals.{ask, asked, numbered}
+use Rattle.terms.specs.Refusals.{ask, asked}
 use Rattle.terms.specs.Worlds.{Rule, World, rules_of}
 use Rattle.terms.specs.Facts.{Claim, KeepsBook, claims_of}
 use Rattle.terms.specs.Verdicts.{Shortest}
@@ -15,7 +15,7 @@ use Rattle.judge.specs.Texts.{Writes, fits}
 use Rattle.judge.specs.Verdicts.{low, report_text, saying}
 use Rattle.records.specs.Faults.{Refused, onward}
 use Rattle.records.specs.Books.{PartBook, facts_of}
-use Rattle.records.specs.Reading.{Accepted, LayoutLaw, all_groups, file_read}
+use Rattle.records.specs.Reading.{LayoutLaw, all_groups, file_read}
 use Rattle.records.specs.Opened.{Content, said_by}
 use Rattle.audit.specs.Audits.{Allowed, Kept, LastLine, ShortestClash, claims_in, clash_line, fault_line}
 use Rattle.audit.proofs.Claims.{all_claims, judged_claims, keeps_into, shortest_same}

@@ -1,7 +1,4 @@
 use Rattle.std.proofs.Common.{◌≡◌, ◌↔◌, ℕ, List, [], length, codes, subst, sym, ◌∙◌, Ok, Err, Result}
-use Rattle.terms.specs.declared.row.Row.{Row}
-use Rattle.terms.specs.declared.fact.Fact.{Fact}
-use Rattle.terms.specs.declared.refusal.Refusal.{Refusal}
 use Rattle.judge.specs.Texts.{Writes}
 use Rattle.judge.specs.Verdicts.{report_text}
 use Rattle.records.specs.Faults.{Refused, refused}
