@@ -14,6 +14,8 @@ fn main(rt: HostRuntime) -> anyhow::Result<()> {
         .context("standard input cannot be read")?;
     let mut output = [0; 8192];
     let length = audit(&input, &mut output)?;
-    rt.stdout().write_all(&output[..length])?;
+    rt.stdout()
+        .write_all(&output[..length])
+        .context("standard output cannot be written")?;
     Ok(())
 }
