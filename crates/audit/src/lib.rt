@@ -4,7 +4,7 @@
 ghost use Rattle.std.specs.Prelude.{◌≡◌, ◌≤◌, ◌↔◌, ℕ, List, length, take, codes, IfOk, IsOk};
 ghost use Rattle.audit.specs.Audits.{Audited, BookReported, Kept, LastLine, ShortestClash, clash_line, fault_line};
 ghost use Rattle.records.specs.Faults.{refused};
-ghost use Rattle.records.specs.Reading.{all_groups, file_read};
+ghost use Rattle.records.specs.Reading.{LayoutLaw, all_groups, file_read};
 ghost use Rattle.book.specs.Books.{rows_of};
 ghost use Rattle.judge.specs.Texts.{Writes};
 
@@ -50,6 +50,7 @@ fn report_book<S: Store>(book: &Book, store: &S, out: &mut [u8]) -> Result<usize
 // too short refuses the call itself, and then nothing is written.
 pub fn audit(input: &[u8], out: &mut [u8]) -> Result<usize, Refusal>
     ensures audited { Audited (file_read all_groups input.now) out.old out.new result }
+    ensures law { LayoutLaw all_groups input.now }
     ensures bound { IfOk result (λ n. n ≤ length out.new) }
     ensures room { 8192 ≤ length out.old → IsOk result }
     ensures stands { IfOk result (λ n. LastLine (take n out.new) (codes "stands") ↔ Kept input.now) }

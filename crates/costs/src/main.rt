@@ -2,14 +2,14 @@
 #![tactic(auto)]
 
 use anyhow::Context;
+use audit::audit;
 use book::sealed::Book;
 use image::sound;
-use image::store::ImageStore;
 use judge::judging::judge;
 use judge::sheet::Sheet;
 use layout::decode;
 use possible::possible;
-use records::reading::{RuleGroup, read_draft, read_rules};
+use records::reading::{read_book, read_draft};
 use search::ClassPair;
 use std::env;
 use std::io::Read;
@@ -17,9 +17,9 @@ use stores::row::RowStore;
 use stores::store::Store;
 use terms::fact::Fact;
 
-// One reading of the records: how many there are.
+// One reading of the rule records: are they accepted?
 fn read_once(input: &[u8]) -> anyhow::Result<usize> {
-    Ok(read_rules(input).context("a record is refused")?.records)
+    Ok(usize::from(read_draft(input).is_ok()))
 }
 
 fn sealed(input: &[u8]) -> anyhow::Result<Book> {
@@ -57,16 +57,26 @@ fn sound_once(input: &[u8]) -> anyhow::Result<usize> {
     Ok(sound(input).len())
 }
 
-// One reading, sealing and judging of rule records and the factory records after them: how many facts were judged.
+// One reading, sealing and judging of a book with its facts: how many facts were judged.
 fn judge_once(input: &[u8]) -> anyhow::Result<usize> {
-    let RuleGroup { draft, end, .. } = read_rules(input).context("a record is refused")?;
-    let facts = ImageStore::open(input.get(end..).unwrap_or_default());
-    let book = draft.seal();
+    let opened = read_book(input).context("a record is refused")?;
     let mut sheet = Sheet::new();
     let mut pairs = [ClassPair::default(); 4096];
     let mut parts = [0; 256];
-    judge(&book, &facts, &mut sheet, &mut pairs, &mut parts).context("the judging is refused")?;
-    Ok(facts.count())
+    judge(
+        &opened.book,
+        &opened.store,
+        &mut sheet,
+        &mut pairs,
+        &mut parts,
+    )
+    .context("the judging is refused")?;
+    Ok(opened.store.count())
+}
+
+// One audit: how many bytes it wrote.
+fn audit_once(input: &[u8]) -> anyhow::Result<usize> {
+    audit(input, &mut [0; 8192]).context("the output does not fit")
 }
 
 // The sum of what a step answers to the same input each time.
@@ -84,7 +94,7 @@ fn repeat<F: Fn(&[u8]) -> anyhow::Result<usize>>(
     Ok(total)
 }
 
-// The arguments are `read`, `seal`, `ask`, `judge`, `tell` or `sound`, and how often.
+// The arguments are `read`, `seal`, `ask`, `judge`, `audit`, `tell` or `sound`, and how often.
 fn main(rt: HostRuntime) -> anyhow::Result<()> {
     let mut input = Vec::new(rt.alloc());
     rt.stdin().take(32768).read_to_end(&mut input)?;
@@ -93,6 +103,7 @@ fn main(rt: HostRuntime) -> anyhow::Result<()> {
     let times = words.next().context("how often is not told")?.parse()?;
     let total = match what.as_str() {
         "ask" => repeat(ask_once, &input, times),
+        "audit" => repeat(audit_once, &input, times),
         "judge" => repeat(judge_once, &input, times),
         "seal" => repeat(seal_once, &input, times),
         "tell" => repeat(tell_once, &input, times),
