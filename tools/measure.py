@@ -133,13 +133,21 @@ def stores_table():
     return ["| what | instructions |", "|---|---:|"] + rows + [""]
 
 
+def shipped(name):
+    with open(f"books/{name}.book", "rb") as book:
+        return book.read()
+
+
+EXAMPLES = [(f"`books/{name}.book`", shipped(name)) for name in ("carousel", "coaster", "coaster-mistake")]
+
+
 def judging_table():
     rows = []
-    for name, book in BOOKS:
-        cost = each(book, "judge", 1)
-        print(f"{cost:>14,}  {name}", flush=True)
-        rows.append(f"| {name} | {len(book):,} | {cost:,} |")
-    return ["| book | bytes | instructions |", "|---|---:|---:|"] + rows + [""]
+    for name, book in EXAMPLES + BOOKS:
+        judging, auditing = each(book, "judge", 1), each(book, "audit", 1)
+        print(f"{judging:>14,} {auditing:>14,}  {name}", flush=True)
+        rows.append(f"| {name} | {len(book):,} | {judging:,} | {auditing:,} |")
+    return ["| book | bytes | judging | an audit |", "|---|---:|---:|---:|"] + rows + [""]
 
 
 def main():
@@ -172,7 +180,7 @@ def main():
     lines += [
         "## Judging",
         "",
-        "Reading rule and factory records, sealing, completing and searching, in all, for books of at most 32,767 bytes. `tools/hard_books.py` makes them: a typical one, and the hardest that we know of several kinds. Of a full book some 60 million go to comparing each fact with those before it.",
+        "Reading all records, sealing, completing and searching, in all, for books of at most 32,767 bytes; and an audit, which also writes the report. Beside the books that ship here there are those of `tools/hard_books.py`: a typical one, and the hardest that we know of several kinds. Of a full book some 60 million go to comparing each fact with those before it.",
         "",
     ]
     lines += judging_table()

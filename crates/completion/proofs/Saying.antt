@@ -5,9 +5,6 @@ use Rattle.completion.specs.declared.rules.Rules.{Rules}
 use Rattle.completion.specs.Closed.{Follows, Joins}
 use Rattle.completion.proofs.Going.{went_none, went_then}
 
-pub follows_none : (r : Rules) (g : Growth) → Follows r g g
-follows_none r g = record { went = went_none g; right = λ F m t. t }
-
 pub follows_then : {r : Rules} {g h k : Growth} → Follows r g h → Follows r h k → Follows r g k
 follows_then a b = record { went = went_then a.went b.went; right = λ F m t. b.right F m (a.right F m t) }
 
