@@ -27,7 +27,7 @@ SHARES = {"stands": 0.3, "clash": 0.3, "word of 2 letters or more": 0.1, "key ma
 
 
 def options():
-    words = argparse.ArgumentParser(prog="random_books", description="Compares bookcheck with other judges of random books.")
+    words = argparse.ArgumentParser(prog="random_books", description="Compares bookcheck with other judges of books.")
     words.add_argument("--program", default=str(PROGRAM), help="the program that judges (%(default)s)")
     words.add_argument("--books", type=int, default=1000, help="how many books (%(default)s)")
     words.add_argument("--seed", default=SEED, help="what the random choices begin with (%(default)s)")
@@ -83,8 +83,11 @@ def lacking(findings):
 
 def command(chosen):
     """The command that makes the run again."""
-    words = f"python3 tools/random_books --books {chosen.books} --seed '{chosen.seed}'"
-    return words + (f" --reasoners {chosen.reasoners}" if chosen.reasoners else "") + (" --page" if chosen.page else "")
+    words = f"python3 tools/random_books --books {chosen.books}"
+    words += f" --seed '{chosen.seed}'" if chosen.seed != SEED else ""
+    words += f" --reasoners {chosen.reasoners}" if chosen.reasoners else ""
+    words += f" --program {chosen.program}" if chosen.program != str(PROGRAM) else ""
+    return words + (" --page" if chosen.page else "")
 
 
 def main():
@@ -93,8 +96,8 @@ def main():
     versions = [reasoner.version() for reasoner in reasoners]
     if None in versions:
         sys.exit(f"{reasoners[versions.index(None)].NAME} is not installed")
-    if not Path(chosen.program).exists():
-        sys.exit(f"{chosen.program} is not built")
+    if not Path(chosen.program).is_file():
+        sys.exit(f"there is no program {chosen.program}")
     findings = run(chosen, reasoners)
     if not chosen.short and not chosen.hex:
         text = table.tables(findings, reasoners, versions, command(chosen))

@@ -35,7 +35,8 @@ class Finding:
 
     def differences(self):
         """Every disagreement, in words."""
-        return self.naive + [f"{name} differs: {question}" for name, question, outcome in self.asked if outcome == DIFFERS]
+        reasoners = [f"{name} differs: {question}" for name, question, outcome in self.asked if outcome == DIFFERS]
+        return self.naive + reasoners
 
 
 def examine(kind, data, program, reasoners):
@@ -49,10 +50,15 @@ def examine(kind, data, program, reasoners):
     finding = Finding(kind, data, "stands" if least is None else "clash", length=least or 0)
     finding.key_matters = key_matters(evaluation, least)
     finding.naive = naive_differences(evaluation, least, said)
-    if isinstance(said, Judged):
+    if isinstance(said, Judged) and names_an_exclusion(book, said.clash):
         for reasoner in reasoners:
             finding.asked += put(reasoner, book, said.clash)
     return finding
+
+
+def names_an_exclusion(book, clash):
+    """Is the clash's row an exclusion of the book, so that something can be asked of it? Or is there no clash?"""
+    return clash is None or clash.row in dict(book.exclusions())
 
 
 def key_matters(evaluation, least):

@@ -128,7 +128,7 @@ def class_steps(rows):
 
 
 def extend(steps, rows, a):
-    """What the last three properties add to class a. The fifth is taken in two halves, as a class lies within itself."""
+    """What the last three properties add to class a; the fifth in two halves, as a class lies within itself."""
     within, leads = steps
     for b in list(within[a]):
         within[a] |= within[b]

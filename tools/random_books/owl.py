@@ -14,7 +14,7 @@ from compare import ERROR, NO_ANSWER, Question
 
 NAME = "Konclude"
 PROGRAM = "Konclude"
-SECONDS = 5
+SECONDS = 8
 
 THING, NOTHING = "owl:Thing", "owl:Nothing"
 
@@ -111,7 +111,7 @@ def questions(book, clash):
     if clash is None:
         return [Question("the book that stands is consistent", whole, True)]
     out = is_a(clash.part, no(along(clash.word, both(book.rows[clash.row]))))
-    asked = [Question("the book that clashes is not", whole, False),
+    asked = [Question("the book that clashes is inconsistent", whole, False),
              Question("the word reaches both classes", text(start + [out]), False)]
     if clash.word:
         asked.append(Question("no shorter word does", text(start + shorter(book, len(clash.word))), True))

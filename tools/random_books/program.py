@@ -3,11 +3,13 @@ import re
 import subprocess
 from typing import NamedTuple
 
+from book import FEATURES, PARTS
 from naive import Refused
 
 NUMBER = rb"(0|[1-9][0-9]*)"
+LETTERS = rb"((?: (?:0|[1-9][0-9]*))*)"
 REFUSED = re.compile(rb"refused %s record %s\n" % (NUMBER, NUMBER))
-JUDGED = re.compile(rb"rules %s\nfacts %s\n(?:stands|clash part %s row %s word((?: [0-9]+)*))\n" % ((NUMBER,) * 4))
+JUDGED = re.compile(rb"rules %s\nfacts %s\n(?:stands|clash part %s row %s word%s)\n" % ((NUMBER,) * 4 + (LETTERS,)))
 
 
 class Clash(NamedTuple):
@@ -49,5 +51,9 @@ def parse(text):
     if not judged:
         return Nothing(f"not an answer: {text[:200]!r}")
     rules, facts, part, row, word = judged.groups()
-    clash = part and Clash(int(part), int(row), tuple(map(int, word.split())))
+    if part is None:
+        return Judged(int(rules), int(facts), None)
+    clash = Clash(int(part), int(row), tuple(map(int, word.split())))
+    if clash.part >= PARTS or any(letter >= FEATURES for letter in clash.word):
+        return Nothing(f"no such part or letter: {text[:200]!r}")
     return Judged(int(rules), int(facts), clash)

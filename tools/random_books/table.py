@@ -50,7 +50,7 @@ def by_question(findings):
     asked = [question for finding in findings for question in finding.asked]
     outcomes = (AGREES, NO_ANSWER, ERROR, DIFFERS)
     lines = heading(["reasoner", "question", "asked"] + list(outcomes), 2)
-    for name, question in dict.fromkeys(each[:2] for each in asked):
+    for name, question in sorted({each[:2] for each in asked}):
         came = [outcome for *what, outcome in asked if what == [name, question]]
         lines.append(line([name, question, len(came)] + [came.count(outcome) for outcome in outcomes]))
     return lines
@@ -82,7 +82,7 @@ def line(cells):
 
 def tables(findings, reasoners, versions, run):
     """All tables, and by what run and which reasoners they were made."""
-    made = [f"Made by `{run}`" + "".join(f", with {version}" for version in versions) + "."]
+    made = [f"Made by `{run}`" + (f", with {' and '.join(versions)}" if versions else "") + "."]
     names = [reasoner.NAME for reasoner in reasoners]
     groups = [made, by_kind(findings, names)] + ([by_question(findings)] if reasoners else [])
     groups += [by_length(findings), by_refusal(findings)]

@@ -98,7 +98,7 @@ def many_classes(sketch):
 
 
 def chains(sketch):
-    """Two chains of classes along one word of untold parts, whose ends exclude each other; often one link is missing."""
+    """Two chains of classes along one word of untold parts, whose ends exclude each other; often a link is missing."""
     word, start, part = sketch.word(sketch.pick.randint(1, 3), 1, 12), sketch.new("class"), sketch.new("part")
     other = start if sketch.chance(0.5) else sketch.new("class")
     sketch.excludes(sketch.strand(start, word), sketch.strand(other, word))
@@ -293,10 +293,9 @@ def renamed(sketch):
     return pick.sample(rows, len(rows)), pick.sample(facts, len(facts))
 
 
-def dealt(pick, rows, facts, most=MOST_SITE_FACTS):
+def dealt(pick, rows, facts):
     """The book of the rows, with some of the facts for the site to add, and now and then a fact told again there."""
-    site = pick.choice((0, len(facts) // 2, len(facts), min(most, len(facts))))
-    site = min(site, most)
+    site = min(pick.choice((0, len(facts) // 2, len(facts))), MOST_SITE_FACTS)
     book = Book(rows, facts[site:], facts[:site])
     if facts and pick.random() < 0.2:
         book.site.insert(pick.randint(0, len(book.site)), pick.choice(facts))
@@ -366,7 +365,8 @@ def wrong_rule(pick):
 
 def wrong_fact(pick):
     """A fact's record with one or two things wrong."""
-    fields = bytearray(Fact(pick.choice((IN_CLASS, VALUE, VALUE, ONE)), 1, 2).record(pick.choice((FACTORY_MARK, SITE_MARK))))
+    fact = Fact(pick.choice((IN_CLASS, VALUE, VALUE, ONE)), 1, 2)
+    fields = bytearray(fact.record(pick.choice((FACTORY_MARK, SITE_MARK))))
     for _ in range(pick.choice((1, 1, 2))):
         place, numbers = pick.choice(((2, (0, 4, 255)), (4, (16, 255)), (4, (64, 255)), (5, (1, 255))))
         fields[place] = pick.choice(numbers)
@@ -387,8 +387,7 @@ def repeated(book):
 
 def overfull(pick):
     """More rows, site facts or bytes than there may be, or just as many."""
-    more = pick.choice((0, 1, 2))
-    what = pick.choice(("rows", "site facts", "bytes"))
+    more, what = pick.choice((0, 1, 2)), pick.choice(("rows", "site facts", "bytes"))
     if what == "rows":
         rows = [Row(WITHIN, pick.randrange(CLASSES), pick.randrange(CLASSES)) for _ in range(MOST_ROWS + more)]
         return Book(rows, [], [Fact(IN_CLASS, 1, 2)]).record()
@@ -396,7 +395,7 @@ def overfull(pick):
         facts = [Fact(IN_CLASS, part, 5) for part in pick.sample(range(PARTS), MOST_SITE_FACTS + more)]
         return Book([], facts[:3], facts[3:] + facts[:3] + [Fact(ONE, 0, part) for part in (1, 2, 3)]).record()
     facts = [Fact(IN_CLASS, n % PARTS, n // PARTS) for n in range(5461)]
-    return Book([], facts).record() + FACTORY_MARK[:more]
+    return Book([], facts).record() + pick.choice((b"", FACTORY_MARK[:1], FACTORY_MARK, bytes(40000)))
 
 
 BROKEN = {"cut": (cut, 5), "damaged": (damaged, 8), "overfull": (overfull, 2)}
