@@ -1,15 +1,14 @@
 -- Reading a whole book: its groups one after another.
-use Rattle.std.proofs.Common.{◌≡◌, ℕ, zero, suc, ◌+◌, ◌-◌, ◌*◌, false, ltb, List, [], ◌∷◌, length, take, drop, Ok, Err, Result, None, sym, refl, ap, ◌∙◌, arith}
+use Rattle.std.proofs.Common.{◌≡◌, ℕ, zero, suc, ◌+◌, ◌-◌, false, ltb, List, [], ◌∷◌, length, Ok, Err, Result, None, sym, ap, ◌∙◌, arith}
 use Rattle.std.proofs.Math.Dec.{eqb-suc-zero}
-use Rattle.std.proofs.lemmas.List.{length-append, take_rest}
+use Rattle.std.proofs.lemmas.List.{length-append}
 use Rattle.terms.specs.declared.fact.Fact.{Fact}
 use Rattle.terms.specs.declared.row.Row.{Row}
 use Rattle.terms.specs.Refusals.{ask, asked}
 use Rattle.book.specs.Drafts.{listed}
 use Rattle.stores.specs.Piles.{free_over}
-use Rattle.layout.specs.declared.Group.{Group}
 use Rattle.layout.specs.declared.Group.TheVariants.{Rule, Factory, Site}
-use Rattle.layout.specs.Layout.{layout, marked}
+use Rattle.layout.specs.Layout.{marked}
 use Rattle.image.specs.Images.{image_facts}
 use Rattle.image.specs.SoundParts.{facts_in}
 use Rattle.image.specs.declared.store.ImageStore.{ImageStore}
@@ -17,11 +16,12 @@ use Rattle.image.proofs.Reading.{facts_count}
 use Rattle.records.specs.declared.Fault.{Fault}
 use Rattle.records.specs.declared.rules.RuleGroup.{RuleGroup}
 use Rattle.records.specs.Faults.{Refused, refused, at_record, onward}
-use Rattle.records.specs.Books.{PartBook, no_records, facts_of, places_left, records_in}
+use Rattle.records.specs.Books.{PartBook, facts_of, places_left, records_in}
 use Rattle.records.specs.Reading.{next_group, read_after, file_read, all_groups}
 use Rattle.records.specs.Groups.{past, RulesRead, FactoryRead, SiteRead, rows_alone, no_site, with_site, end_questions}
 use Rattle.records.specs.Opened.{Content, said_by}
-use Rattle.records.proofs.Ending.{ended}
+use Rattle.records.proofs.Whole.{file_on}
+use Rattle.records.proofs.Ending.{ended_as}
 
 -- no group goes on after k site facts: no row and no factory fact may follow a site fact, no row may follow a factory fact, and
 -- after the records of each group its mark does not stand
@@ -32,15 +32,6 @@ module _ (rows : List Row) (bytes : List ℕ) (no_rule : marked Rule bytes ≡ f
   none_left [] (suc k) f s = rw (facts_count, eqb-suc-zero, s)
   none_left (e ∷ facts) zero f s = rw (eqb-suc-zero, f, s)
   none_left (e ∷ facts) (suc k) f s = simp (facts_count, eqb-suc-zero, s)
-
--- what is said of the book, where the end has an answer
-said : (r : Result (Unit {0}) Refused) (b : PartBook) (z : Content) → said_by b ≡ z → onward r (λ _. Ok z) ≡ onward (onward r (λ _. Ok b)) (λ b. Ok (said_by b))
-said (Ok u) b z e = ap Ok (sym e)
-said (Err f) b z e = refl
-
--- the bytes of the slice that begins after k records
-pub slice_past : (g : Group) (size k : ℕ) (bytes : List ℕ) → size ≡ (layout g).size → take (length bytes - size * k) (drop (size * k) bytes) ≡ past g k bytes
-slice_past g size k bytes e = take_rest bytes (size * k) ∙ ap (λ (n : ℕ). drop (n * k) bytes) e
 
 -- a file is read up to its site records, of which the first has the number; before them these facts are told and so many places free
 pub record AtSite (bytes : List ℕ) (b : PartBook) (site : List ℕ) (first : ℕ) (facts : List Fact) (room : ℕ) : Type 0 where
@@ -63,8 +54,7 @@ at_site bytes short rules rows_read after after_is image facts_read site site_is
     let unmarked : marked Rule after ≡ false = ap (marked Rule) after_is ∙ rows_read.1.unmarked in
     record {
       reads =
-          ap (λ (r : Result (Unit {0}) Refused). onward r (λ _. read_after all_groups no_records bytes)) (sym short)
-          ∙ rows_read.2 (Factory ∷ Site ∷ []) ∙ ap (read_after all_groups (rows_alone (listed rules.draft))) (sym after_is)
+          file_on all_groups bytes short ∙ rows_read.2 (Factory ∷ Site ∷ []) ∙ ap (read_after all_groups (rows_alone (listed rules.draft))) (sym after_is)
           ∙ facts_read.1 (listed rules.draft) ∙ ap (read_after all_groups (no_site (listed rules.draft) (image_facts image))) (sym site_is);
       counted = omega (arith, rows_read.0);
       facts_before = sym facts_is;
@@ -89,9 +79,8 @@ module _ {bytes : List ℕ} {b : PartBook} {site : List ℕ} {first : ℕ} {fact
       let m = facts_count k site in
       let n : first + k ≡ records_in c = omega (arith, here.counted) in
       let a = e ∙ ap (λ (n : ℕ). at_record n (asked (end_questions rest) (tt {0}))) n ∙ ap (λ (z : List ℕ). at_record (records_in c) (asked (end_questions z) (tt {0}))) rest_is in
-      let end = ended all_groups c (past Site k site) (here.last k s.0.unmarked) r a in
       let content : said_by c ≡ record { rows = b.rows; facts = facts'; places = room' } =
       ap (λ (fs : List Fact). let z : Content = record { rows = b.rows; facts = fs; places = places_left c } in z) told.0
       ∙ ap (λ (n : ℕ). let z : Content = record { rows = b.rows; facts = facts'; places = n } in z) told.1 in
-      said r c _ content
-      ∙ ap (λ (z : Result PartBook Refused). onward z (λ b. Ok (said_by b))) (sym (here.reads ∙ told.2 ∙ end))
+      ap (λ (z : Content). onward r (λ _. Ok z)) (sym content) ∙ ended_as said_by all_groups c (past Site k site) (here.last k s.0.unmarked) r a
+      ∙ ap (λ (z : Result PartBook Refused). onward z (λ b. Ok (said_by b))) (sym (here.reads ∙ told.2))

@@ -1,6 +1,6 @@
 -- Reading a file gives the book that the file encodes, or its first record with a no.
 use Rattle.std.proofs.Common.{◌≡◌, ℕ, zero, suc, ◌<◌, ◌≤◌, ◌⊎◌, List, ◌++◌, length, drop, Ok, Err, Some, Result, sym, refl, ap, ◌∙◌, subst, inl, inr, append-nil, arith}
-use Rattle.std.proofs.lemmas.List.{length-drop, nil_from_length}
+use Rattle.std.proofs.lemmas.List.{nil_from_length}
 use Rattle.std.proofs.lemmas.Bool.{cases_lt}
 use Rattle.terms.specs.Refusals.{asked}
 use Rattle.terms.proofs.Asking.{answers}
@@ -11,7 +11,7 @@ use Rattle.layout.specs.Layout.{layout}
 use Rattle.records.specs.Faults.{Refused}
 use Rattle.records.specs.Books.{PartBook, no_records, encoded_book, Lawful, InGroups}
 use Rattle.records.specs.Reading.{next_questions, with_record, read_after, file_read, Accepted, FirstRefused}
-use Rattle.records.proofs.Stepping.{taken_group, after_nothing, after_refused, after_taken}
+use Rattle.records.proofs.Stepping.{shorter, taken_group, after_nothing, after_refused, after_taken}
 use Rattle.records.proofs.Whole.{file_long, file_short}
 use Rattle.records.proofs.Taking.{Taken, taken}
 
@@ -25,11 +25,6 @@ shifted : (groups : List Group) (b c : PartBook) (bytes rest : List ℕ) → enc
     → Reached groups c rest r → Reached groups b bytes r
 shifted groups b c bytes rest e (Ok d) p = (p.0 ∙ e, p.1, p.2)
 shifted groups b c bytes rest e (Err f) p = subst (λ (z : List ℕ). FirstRefused groups z f.number_of f.index) e p
-
-some_size : (g : Group) → 0 < (layout g).size
-some_size Rule = omega arith
-some_size Factory = omega arith
-some_size Site = omega arith
 
 module _ (groups : List Group) (b : PartBook) (bytes : List ℕ) (l : Lawful b) (i : InGroups groups b) where
   reached_end : length bytes ≡ 0 → Reached groups b bytes (read_after groups b bytes)
@@ -66,14 +61,8 @@ reached groups (suc n) b bytes h l i short =
     elim (cases_lt 0 (length bytes)) [
       | inr none ↦ reached_end groups b bytes l i (omega arith)
       | inl some ↦ reached_by groups b bytes l i some short (asked (next_questions groups b bytes) (tt {0})) refl (λ g t.
-          let s = some_size g in
-          let d = length-drop (layout g).size bytes in
-          reached groups n (with_record (Some g) b bytes) (drop (layout g).size bytes) (omega arith) t.lawful t.groups_of (rw t.encoded short))
+          reached groups n (with_record (Some g) b bytes) (drop (layout g).size bytes) (shorter g bytes n some h) t.lawful t.groups_of (rw t.encoded short))
     ]
-
-pub forward : (groups : List Group) (n : ℕ) (b : PartBook) (bytes : List ℕ) → length bytes ≤ n → Lawful b → InGroups groups b → length (encoded_book b ++ bytes) < 32768
-    → (r : Result PartBook Refused) → read_after groups b bytes ≡ r → Reached groups b bytes r
-forward groups n b bytes h l i short r e = subst (Reached groups b bytes) e (reached groups n b bytes h l i short)
 
 -- the book with no records
 lawful_none : Lawful no_records
@@ -94,7 +83,9 @@ in_groups_none groups Site = inr refl
 module _ (groups : List Group) (bytes : List ℕ) where
   -- what reading a short file gives
   file_reached : length bytes < 32768 → (r : Result PartBook Refused) → file_read groups bytes ≡ r → Reached groups no_records bytes r
-  file_reached short r e = forward groups (length bytes) no_records bytes (omega arith) lawful_none (in_groups_none groups) short r (sym (file_short groups bytes short) ∙ e)
+  file_reached short r e =
+      subst (Reached groups no_records bytes) (sym (file_short groups bytes short) ∙ e)
+      (reached groups (length bytes) no_records bytes (omega arith) lawful_none (in_groups_none groups) short)
 
   not_long : (b : PartBook) (e : Refused) → file_read groups bytes ≡ Err e → file_read groups bytes ≡ Ok b → ⊥
   not_long b e p q = cc

@@ -1,25 +1,24 @@
 -- The image at the front of the facts of a file: reading goes past its records, and its reader refuses just what reading on
 -- refuses.
-use Rattle.std.proofs.Common.{◌≡◌, ℕ, ◌+◌, ◌-◌, ◌*◌, ◌<◌, ◌≤◌, Bool, true, false, not, cond, eqb, List, [], ◌∷◌, ◌++◌, length, take, drop, Some, Ok, Err, Option, Result, sym, refl, ap, ◌∙◌, inl, inr, append_assoc, arith}
-use Rattle.std.proofs.lemmas.List.{take_all, length-take, length-drop, length_push, take-append-drop}
-use Rattle.std.proofs.lemmas.Bool.{cases_Bool, false≢true, ne_eqb, leb-true}
+use Rattle.std.proofs.Common.{◌≡◌, ℕ, ◌+◌, ◌*◌, ◌<◌, ◌≤◌, Bool, true, false, not, cond, List, [], ◌∷◌, ◌++◌, length, take, drop, Ok, Err, Result, sym, refl, ap, ◌∙◌, inl, inr, append_assoc, arith}
+use Rattle.std.proofs.lemmas.List.{length-take, length_push, take-append-drop}
+use Rattle.std.proofs.lemmas.Bool.{cases_Bool, false≢true, leb-true}
 use mathlib.Core.List.Memᴰ
 use Rattle.terms.specs.declared.row.Row.{Row}
 use Rattle.terms.specs.declared.fact.Fact.{Fact}
 use Rattle.terms.specs.Refusals.{Question, ask, asked}
 use Rattle.terms.specs.Lawful.{fact_questions}
 use Rattle.terms.proofs.Asking.{all_yes, answers, asked_on, asked_no}
-use Rattle.stores.specs.Meaning.{Meaning, listed}
-use Rattle.stores.proofs.Keeping.{means_more}
-use Rattle.layout.specs.declared.Group.{Group}
+use Rattle.stores.specs.Meaning.{listed}
 use Rattle.layout.specs.declared.Group.TheVariants.{Factory}
 use Rattle.layout.specs.Layout.{encoded_fact, encoded_facts, marked, whole, fact_in}
-use Rattle.layout.proofs.Records.{mark_two, fact_forth, facts_length, facts_more}
+use Rattle.layout.proofs.Records.{fact_forth, facts_length, facts_more}
 use Rattle.image.specs.SoundParts.{LongestSound}
 use Rattle.records.specs.Faults.{Refused, at_record}
-use Rattle.records.specs.Reading.{mark_questions, next_questions, read_after, all_groups}
+use Rattle.records.specs.Reading.{read_after, all_groups}
 use Rattle.records.specs.Groups.{Ends, Onward, past, rows_alone, no_site, after_image_questions}
-use Rattle.records.proofs.Stepping.{after_refused, next_in}
+use Rattle.records.proofs.Books.{means_push}
+use Rattle.records.proofs.Stepping.{after_mark, marked_turn}
 use Rattle.records.proofs.Past.{past_factory}
 
 -- an image is done only where no factory mark follows it
@@ -60,10 +59,6 @@ module _ (bytes part : List ℕ) (facts : List Fact) (law : LongestSound bytes p
   pub image_passed : (rows : List Row) → Onward all_groups (rows_alone rows) bytes (no_site rows facts) (past Factory (length facts) bytes)
   image_passed rows = ap (read_after all_groups (rows_alone rows)) image_cut ∙ past_factory all_groups rows [] facts (drop (6 * length facts) bytes) (Memᴰ.tail (Memᴰ.head refl)) law.sound.means
 
-  -- what follows it, as the code has it
-  pub image_rest : (k : ℕ) → k ≡ 6 * length facts → take (length bytes - k) (drop k bytes) ≡ past Factory (length facts) bytes
-  image_rest k e = let d = length-drop k bytes in take_all (length bytes - k) (drop k bytes) (omega arith) ∙ ap (λ (k : ℕ). drop k bytes) e
-
   module _ (rest : List ℕ) (r : rest ≡ past Factory (length facts) bytes) where
     module _ (few : length bytes < 32768) (m : marked Factory rest ≡ true) where
       -- with a record more, the front part would be longer
@@ -71,12 +66,11 @@ module _ (bytes part : List ℕ) (facts : List Fact) (law : LongestSound bytes p
       longer w q l =
           let f = fact_in rest in
           let i = image_inside in
-          let means : Meaning facts 1 = record { lawful = law.sound.means.lawful; different = law.sound.means.different; short = law.sound.means.short; fits = omega arith } in
           let e : bytes ≡ encoded_facts Factory (facts ++ f ∷ []) ++ drop 6 rest =
           image_cut ∙ ap (λ (x : List ℕ). encoded_facts Factory facts ++ x) (sym r ∙ fact_forth Factory rest m (leb-true 6 (length rest) w))
           ∙ sym (append_assoc (encoded_facts Factory facts) (encoded_fact Factory f) (drop 6 rest))
           ∙ ap (λ (x : List ℕ). x ++ drop 6 rest) (sym (facts_more Factory facts f)) in
-          let long = law.longest (encoded_facts Factory (facts ++ f ∷ [])) (drop 6 rest) (facts ++ f ∷ []) e (record { records = refl; means = means_more facts 1 f means q l (omega arith) }) in
+          let long = law.longest (encoded_facts Factory (facts ++ f ∷ [])) (drop 6 rest) (facts ++ f ∷ []) e (record { records = refl; means = means_push facts f law.sound.means (omega arith) q l }) in
           let a = facts_length Factory (facts ++ f ∷ []) in
           let b = length_push facts f in
           let p = part_length in
@@ -90,12 +84,8 @@ module _ (bytes part : List ℕ) (facts : List Fact) (law : LongestSound bytes p
 
       -- what is asked after the image answers what the questions of the next record do
       same_answer : (rows : List Row) → asked (ask 12 (whole Factory rest) ∷ (fact_questions (fact_in rest) ++ (ask 14 false ∷ []))) (tt {0})
-          ≡ asked (next_questions all_groups (no_site rows facts) rest) tt
-      same_answer rows =
-          last_alone (ask 12 (whole Factory rest) ∷ fact_questions (fact_in rest)) 14 false (not (listed facts (fact_in rest))) not_new
-          ∙ sym (ap (λ (b : Bool). asked (ask 12 (not b) ∷ mark_questions (Some Factory) (no_site rows facts) rest) (tt {0})) (ne_eqb (length rest) 1 (λ e. omega (arith, mark_two Factory rest m))))
-          ∙ sym (ap (λ (g : Option Group). asked (ask 12 (not (eqb (length rest) 1)) ∷ mark_questions g (no_site rows facts) rest) (tt {0}))
-          (next_in all_groups (no_site rows facts) rest Factory (Memᴰ.tail (Memᴰ.head refl)) refl m))
+          ≡ asked (after_mark Factory (no_site rows facts) rest) tt
+      same_answer rows = last_alone (ask 12 (whole Factory rest) ∷ fact_questions (fact_in rest)) 14 false (not (listed facts (fact_in rest))) not_new
 
     pub image_ends : asked (after_image_questions rest) (tt {0}) ≡ Ok tt → Ends Factory (length facts) bytes
     image_ends e = record { inside = image_inside; unmarked = ap (marked Factory) (sym r) ∙ unmarked rest (marked Factory rest) e }
@@ -108,7 +98,7 @@ module _ (bytes part : List ℕ) (facts : List Fact) (law : LongestSound bytes p
         by (Ok u) q h = cc
         by (Err n) q h =
             let m = mark_there (marked Factory rest) _ n q in
-            let f = after_refused all_groups (no_site rows facts) rest n (omega (arith, mark_two Factory rest m.0)) (sym (same_answer few m.0 rows) ∙ m.1) in
+            let f = marked_turn all_groups (no_site rows facts) rest Factory (Memᴰ.tail (Memᴰ.head refl)) refl m.0 (Err n) (sym m.1 ∙ same_answer few m.0 rows) in
             let p = image_passed rows ∙ ap (read_after all_groups (no_site rows facts)) (sym r) in
             let j : length rows + (length facts + 0) ≡ k = omega arith in
             cc

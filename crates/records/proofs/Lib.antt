@@ -1,4 +1,5 @@
 -- How files are read, record by record, and the law of their layout.
+pub mod Books
 pub mod Stepping
 pub mod Whole
 pub mod Chunks

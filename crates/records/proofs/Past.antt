@@ -1,9 +1,9 @@
 -- Reading goes past the encoding of a lawful book.
-use Rattle.std.proofs.Common.{◌≡◌, ℕ, ◌+◌, ◌-◌, ◌<◌, ◌≤◌, Bool, true, false, cond, not, ◌||◌, eqb, ltb, List, [], ◌∷◌, ◌++◌, length, drop, Ok, Some, Option, sym, refl, ap, ◌∙◌, subst, inl, inr, append_assoc, append-nil, arith}
+use Rattle.std.proofs.Common.{◌≡◌, ℕ, ◌+◌, ◌-◌, ◌<◌, ◌≤◌, Bool, true, false, cond, not, ◌||◌, ltb, List, [], ◌∷◌, ◌++◌, length, drop, Ok, Some, sym, refl, ap, ◌∙◌, subst, ◌⊎◌, inl, inr, append_assoc, append-nil, arith}
 use mathlib.Core.List.Memᴰ
 use Rattle.std.specs.List.{slice_get}
 use Rattle.std.proofs.lemmas.List.{length-append, length_push, drop_at, nil_from_length}
-use Rattle.std.proofs.lemmas.Bool.{and_parts, cases_Bool, le-leb, lt-ltb, ne_eqb, not_from_false, or_left, or_right}
+use Rattle.std.proofs.lemmas.Bool.{and_parts, cases_Bool, le-leb, lt-ltb, not_from_false, or_left, or_right}
 use Rattle.terms.specs.declared.row.Row.{Row}
 use Rattle.terms.specs.declared.fact.Fact.{Fact}
 use Rattle.terms.specs.Refusals.{Question, ask, asked}
@@ -18,11 +18,12 @@ use Rattle.stores.proofs.Listing.{listed_in, in_nth, nth_below, nth_lower, nth_u
 use Rattle.stores.proofs.Keeping.{yes_lawful}
 use Rattle.layout.specs.declared.Group.{Group}
 use Rattle.layout.specs.declared.Group.TheVariants.{Rule, Factory, Site}
-use Rattle.layout.specs.Layout.{layout, encoded_row, encoded_rows, encoded_facts, marked, whole, row_in}
-use Rattle.layout.proofs.Records.{mark_two, row_back, facts_length}
+use Rattle.layout.specs.Layout.{layout, encoded_row, encoded_rows, encoded_facts, marked, row_in}
+use Rattle.layout.proofs.Records.{row_back}
 use Rattle.records.specs.Books.{PartBook, no_records, told, encoded_book, Four, Lawful, InGroups}
-use Rattle.records.specs.Reading.{may_follow, own_questions, mark_questions, with_record, read_after}
-use Rattle.records.proofs.Stepping.{after_taken, next_in}
+use Rattle.records.specs.Reading.{may_follow, own_questions, with_record, read_after}
+use Rattle.records.proofs.Books.{told_append, told_longer, few_factory}
+use Rattle.records.proofs.Stepping.{marked_turn}
 
 abbrev book_of : List Row → List Fact → List Fact → PartBook
 book_of rows factory site = record { rows = rows; factory = factory; site = site }
@@ -35,14 +36,7 @@ asked_last qs n t e y = asked_on qs (ask n t ∷ []) tt tt e ∙ all_yes tt (ask
 record_taken : (groups : List Group) (b : PartBook) (bytes : List ℕ) (g : Group) → g ∈ groups → may_follow b g ≡ true → marked g bytes ≡ true → (layout g).size ≤ length bytes
     → asked (own_questions g b bytes) (tt {0}) ≡ Ok tt → read_after groups b bytes ≡ read_after groups (with_record (Some g) b bytes) (drop (layout g).size bytes)
 record_taken groups b bytes g i f m w e =
-    let two = mark_two g bytes m in
-    let n = next_in groups b bytes g i f m in
-    let first = ask 12 (not (eqb (length bytes) 1)) ∷ ask 13 true ∷ ask 12 (whole g bytes) ∷ [] in
-    let lone = not_from_false (eqb (length bytes) 1) (ne_eqb (length bytes) 1 (λ e. omega arith)) in
-    after_taken groups b bytes g (omega arith) n
-    (ap (λ (o : Option Group). asked (ask 12 (not (eqb (length bytes) 1)) ∷ mark_questions o b bytes) (tt {0})) n
-    ∙ asked_on first (own_questions g b bytes) (tt {0}) (tt {0}) (all_yes tt first (lone, (refl, (le-leb (layout g).size (length bytes) w, tt))))
-    ∙ e)
+    marked_turn groups b bytes g i f m (Ok tt) (sym (ap (λ (t : Bool). asked (ask 12 t ∷ own_questions g b bytes) (tt {0})) (le-leb (layout g).size (length bytes) w) ∙ e))
 
 -- of different facts none is listed before its place
 not_before : (facts more : List Fact) (f : Fact) → Meaning (facts ++ f ∷ more) 0 → listed facts f ≡ false
@@ -88,22 +82,6 @@ past_rows groups rows (r ∷ more) rest i l f few =
     ∙ past_rows groups (rows ++ r ∷ []) more rest i p.1 f.1 (omega arith)
     ∙ ap (λ (z : List Row). read_after groups (book_of z [] []) rest) (append_assoc rows (r ∷ []) more)
 
--- facts told in two parts; telling makes no list shorter
-told_append : (facts site more : List Fact) → told facts (site ++ more) ≡ told (told facts site) more
-told_append facts [] more = refl
-told_append facts (f ∷ site) more = told_append (cond (listed facts f) facts (facts ++ f ∷ [])) site more
-
-told_longer : (facts more : List Fact) → length facts ≤ length (told facts more)
-told_longer facts [] = omega arith
-told_longer facts (f ∷ more) =
-    let h = told_longer (cond (listed facts f) facts (facts ++ f ∷ [])) more in
-    let one = by (listed facts f) in
-    omega arith
-  where
-    by : (t : Bool) → length facts ≤ length (cond t facts (facts ++ f ∷ []))
-    by true = omega arith
-    by false = let n = length_push facts f in omega arith
-
 -- a fact that is new makes the list longer
 new_longer : (facts more : List Fact) (f : Fact) → listed facts f ≡ false → length facts < length (told facts (f ∷ more))
 new_longer facts more f l =
@@ -138,31 +116,25 @@ past_site groups rows facts site (f ∷ more) rest i l few short =
     ∙ ap (λ (z : List Fact). read_after groups (book_of rows facts z) rest) e
 
 -- the records of each group, of which the book may have none
+by_part : {A M : Type 0} (P : List A → Type 0) (items : List A) → M ⊎ (length items ≡ 0) → (M → P items) → P [] → P items
+by_part P items (inl m) some none = some m
+by_part P items (inr e) some none = subst P (sym (nil_from_length items e)) none
+
 module _ (groups : List Group) (b : PartBook) (l : Lawful b) (i : InGroups groups b) where
   rows_past : (rest : List ℕ) → read_after groups no_records (encoded_rows b.rows ++ rest) ≡ read_after groups (book_of b.rows [] []) rest
   rows_past rest =
-      elim (i Rule) [
-        | inl m ↦ past_rows groups [] b.rows rest m l.rows l.four (omega (arith, l.few_rows))
-        | inr none ↦ subst (λ (z : List Row). read_after groups no_records (encoded_rows z ++ rest) ≡ read_after groups (book_of z [] []) rest) (sym (nil_from_length b.rows none)) refl
-      ]
+      by_part (λ z. read_after groups no_records (encoded_rows z ++ rest) ≡ read_after groups (book_of z [] []) rest) b.rows (i Rule)
+      (λ m. past_rows groups [] b.rows rest m l.rows l.four (omega (arith, l.few_rows))) refl
 
   factory_past : (rest : List ℕ) → read_after groups (book_of b.rows [] []) (encoded_facts Factory b.factory ++ rest) ≡ read_after groups (book_of b.rows b.factory []) rest
   factory_past rest =
-      elim (i Factory) [
-        | inl m ↦ past_factory groups b.rows [] b.factory rest m l.factory
-        | inr none ↦
-            subst (λ (z : List Fact). read_after groups (book_of b.rows [] []) (encoded_facts Factory z ++ rest) ≡ read_after groups (book_of b.rows z []) rest)
-            (sym (nil_from_length b.factory none)) refl
-      ]
+      by_part (λ z. read_after groups (book_of b.rows [] []) (encoded_facts Factory z ++ rest) ≡ read_after groups (book_of b.rows z []) rest) b.factory (i Factory)
+      (λ m. past_factory groups b.rows [] b.factory rest m l.factory) refl
 
   site_past : (rest : List ℕ) → length b.factory < 32768 → read_after groups (book_of b.rows b.factory []) (encoded_facts Site b.site ++ rest) ≡ read_after groups b rest
   site_past rest short =
-      elim (i Site) [
-        | inl m ↦ past_site groups b.rows b.factory [] b.site rest m l.site l.few_new short
-        | inr none ↦
-            subst (λ (z : List Fact). read_after groups (book_of b.rows b.factory []) (encoded_facts Site z ++ rest) ≡ read_after groups (book_of b.rows b.factory z) rest)
-            (sym (nil_from_length b.site none)) refl
-      ]
+      by_part (λ z. read_after groups (book_of b.rows b.factory []) (encoded_facts Site z ++ rest) ≡ read_after groups (book_of b.rows b.factory z) rest) b.site (i Site)
+      (λ m. past_site groups b.rows b.factory [] b.site rest m l.site l.few_new short) refl
 
 pub past_book : (groups : List Group) (b : PartBook) (rest : List ℕ) → Lawful b → InGroups groups b → length (encoded_book b ++ rest) < 32768
     → read_after groups no_records (encoded_book b ++ rest) ≡ read_after groups b rest
@@ -170,9 +142,7 @@ past_book groups b rest l i h =
     let r = encoded_rows b.rows in
     let f = encoded_facts Factory b.factory in
     let s = encoded_facts Site b.site in
-    let n = facts_length Factory b.factory in
-    let short : length b.factory < 32768 = omega (arith, length-append (r ++ (f ++ s)) rest, length-append r (f ++ s), length-append f s) in
     ap (read_after groups no_records) (append_assoc r (f ++ s) rest ∙ ap (λ (z : List ℕ). r ++ z) (append_assoc f s rest))
     ∙ rows_past groups b l i (f ++ (s ++ rest))
     ∙ factory_past groups b l i (s ++ rest)
-    ∙ site_past groups b l i rest short
+    ∙ site_past groups b l i rest (few_factory b rest h)

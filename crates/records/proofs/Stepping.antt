@@ -1,8 +1,8 @@
 -- Reading on by one record.
-use Rattle.std.proofs.Common.{◌≡◌, ℕ, zero, suc, ◌+◌, ◌-◌, ◌*◌, ◌<◌, ◌≤◌, Bool, true, false, cond, not, ◌&&◌, eqb, List, [], ◌∷◌, ◌++◌, length, drop, Ok, Err, Some, None, Option, Result, sym, refl, ap, ◌∙◌, subst, inl, inr, arith}
-use Rattle.std.proofs.lemmas.List.{length-append, length-drop, nil_from_length}
+use Rattle.std.proofs.Common.{◌≡◌, ℕ, zero, suc, ◌<◌, ◌≤◌, Bool, true, false, cond, not, ◌&&◌, eqb, List, [], ◌∷◌, length, drop, Ok, Err, Some, None, Option, Result, sym, refl, ap, ◌∙◌, subst, inl, inr, arith}
+use Rattle.std.proofs.lemmas.List.{length-drop}
 use mathlib.Core.List.Memᴰ
-use Rattle.std.proofs.lemmas.Bool.{and_parts, cases_lt, cases_Bool, ne_eqb}
+use Rattle.std.proofs.lemmas.Bool.{and_parts, cases_lt, ne_eqb}
 use Rattle.terms.specs.Refusals.{Question, ask, asked}
 use Rattle.terms.specs.Worlds.{◌∈◌}
 use Rattle.layout.specs.declared.Group.{Group}
@@ -11,10 +11,10 @@ use Rattle.layout.specs.Layout.{layout, marked, whole}
 use Rattle.layout.proofs.Records.{mark_two, one_mark}
 use Rattle.records.specs.Faults.{Refused, at_record, onward}
 use Rattle.records.specs.Books.{PartBook, records_in}
-use Rattle.records.specs.Reading.{may_follow, next_group, own_questions, mark_questions, next_questions, with_record, after_record, read_on, read_after, all_groups}
+use Rattle.records.specs.Reading.{may_follow, next_group, own_questions, mark_questions, next_questions, with_record, after_record, read_on, read_after}
 
 -- the bytes end: the book is read
-pub on_nothing : (groups : List Group) (n : ℕ) (b : PartBook) (bytes : List ℕ) → length bytes ≡ 0 → read_on groups n b bytes ≡ Ok b
+on_nothing : (groups : List Group) (n : ℕ) (b : PartBook) (bytes : List ℕ) → length bytes ≡ 0 → read_on groups n b bytes ≡ Ok b
 unfolding read_on
 on_nothing groups zero b bytes e = refl
 on_nothing groups (suc n) b bytes e =
@@ -34,9 +34,9 @@ none_no : (b : PartBook) (bytes : List ℕ) (t : Bool) (u : Unit {0}) → asked 
 none_no b bytes true u e = cc
 none_no b bytes false u e = cc
 
-next_questions_by : (groups : List Group) (b : PartBook) (bytes : List ℕ) (o : Option Group) → next_group groups b bytes ≡ o
-    → next_questions groups b bytes ≡ ask 12 (not (eqb (length bytes) 1)) ∷ mark_questions o b bytes
-next_questions_by groups b bytes o e = ap (λ (p : Option Group). ask 12 (not (eqb (length bytes) 1)) ∷ mark_questions p b bytes) e
+pub asked_by : (groups : List Group) (b : PartBook) (bytes : List ℕ) (o : Option Group) → next_group groups b bytes ≡ o
+    → asked (next_questions groups b bytes) (tt {0}) ≡ asked (ask 12 (not (eqb (length bytes) 1)) ∷ mark_questions o b bytes) tt
+asked_by groups b bytes o e = ap (λ (p : Option Group). asked (ask 12 (not (eqb (length bytes) 1)) ∷ mark_questions p b bytes) (tt {0})) e
 
 pub taken_group : (groups : List Group) (b : PartBook) (bytes : List ℕ) (u : Unit {0}) → asked (next_questions groups b bytes) (tt {0}) ≡ Ok u
     → (g : Group) × (next_group groups b bytes ≡ Some g)
@@ -44,13 +44,16 @@ taken_group groups b bytes u e = by (next_group groups b bytes) refl
   where
     by : (o : Option Group) → next_group groups b bytes ≡ o → (g : Group) × (next_group groups b bytes ≡ Some g)
     by None n =
-        absurd (none_no b bytes (not (eqb (length bytes) 1)) u (sym (ap (λ (qs : List Question). asked qs (tt {0})) (next_questions_by groups b bytes None n)) ∙ e))
+        absurd (none_no b bytes (not (eqb (length bytes) 1)) u (sym (asked_by groups b bytes None n) ∙ e))
     by (Some g) n = (g, n)
 
-shorter : (g : Group) (bytes : List ℕ) (n : ℕ) → 0 < length bytes → length bytes ≤ suc n → length (drop (layout g).size bytes) ≤ n
-shorter Rule bytes n some h = let l = length-drop 10 bytes in omega arith
-shorter Factory bytes n some h = let l = length-drop 6 bytes in omega arith
-shorter Site bytes n some h = let l = length-drop 6 bytes in omega arith
+pub some_size : (g : Group) → 0 < (layout g).size
+some_size Rule = omega arith
+some_size Factory = omega arith
+some_size Site = omega arith
+
+pub shorter : (g : Group) (bytes : List ℕ) (n : ℕ) → 0 < length bytes → length bytes ≤ suc n → length (drop (layout g).size bytes) ≤ n
+shorter g bytes n some h = omega (arith, some_size g, length-drop (layout g).size bytes)
 
 -- what follows a record by its group
 abbrev follow : List Group → ℕ → PartBook → List ℕ → Option Group → Result PartBook Refused
@@ -82,20 +85,20 @@ module _ (groups : List Group) (b : PartBook) (bytes : List ℕ) where
   pub after_nothing : length bytes ≡ 0 → read_after groups b bytes ≡ Ok b
   after_nothing e = on_nothing groups (length bytes) b bytes e
 
-  one_turn : 0 < length bytes → read_after groups b bytes ≡ onward (at_record (records_in b) (asked (next_questions groups b bytes) (tt {0}))) (λ _. follow groups (length bytes) b bytes (next_group groups b bytes))
-  one_turn some = enough groups (length bytes) (suc (length bytes)) b bytes (omega arith) (omega arith) ∙ turn groups (length bytes) b bytes some
+  -- the questions of the next record have an answer
+  one_turn : (r : Result (Unit {0}) ℕ) → 0 < length bytes → asked (next_questions groups b bytes) (tt {0}) ≡ r
+      → read_after groups b bytes ≡ onward (at_record (records_in b) r) (λ _. follow groups (length bytes) b bytes (next_group groups b bytes))
+  one_turn r some e =
+      enough groups (length bytes) (suc (length bytes)) b bytes (omega arith) (omega arith) ∙ turn groups (length bytes) b bytes some
+      ∙ ap (λ (r : Result (Unit {0}) ℕ). onward (at_record (records_in b) r) (λ _. follow groups (length bytes) b bytes (next_group groups b bytes))) e
 
-  -- the next record has a no
   pub after_refused : (n : ℕ) → 0 < length bytes → asked (next_questions groups b bytes) (tt {0}) ≡ Err n → read_after groups b bytes ≡ Err (record { number_of = n; index = records_in b })
-  after_refused n some e =
-      one_turn some ∙ ap (λ (r : Result (Unit {0}) ℕ). onward (at_record (records_in b) r) (λ _. follow groups (length bytes) b bytes (next_group groups b bytes))) e
+  after_refused n some e = one_turn (Err n) some e
 
-  -- the next record is taken
   pub after_taken : (g : Group) → 0 < length bytes → next_group groups b bytes ≡ Some g → asked (next_questions groups b bytes) (tt {0}) ≡ Ok tt
       → read_after groups b bytes ≡ read_after groups (with_record (Some g) b bytes) (drop (layout g).size bytes)
   after_taken g some n e =
-      one_turn some ∙ ap (λ (r : Result (Unit {0}) ℕ). onward (at_record (records_in b) r) (λ _. follow groups (length bytes) b bytes (next_group groups b bytes))) e
-      ∙ ap (follow groups (length bytes) b bytes) n
+      one_turn (Ok tt) some e ∙ ap (follow groups (length bytes) b bytes) n
       ∙ enough groups (length bytes) (length (drop (layout g).size bytes)) (with_record (Some g) b bytes) (drop (layout g).size bytes) (shorter g bytes (length bytes) some (omega arith)) (omega arith)
 
 -- the group of the next record is one of those listed, it may follow, and its mark stands there
@@ -118,7 +121,7 @@ next_is (h ∷ more) b bytes g e = by (may_follow b h && marked h bytes) refl (n
     by false p on e = let n = on e in record { among = Memᴰ.tail n.among; follows = n.follows; marks = n.marks }
 
 -- where its mark stands and it may follow, a group of the file is that of the next record
-pub next_in : (groups : List Group) (b : PartBook) (bytes : List ℕ) (g : Group) → g ∈ groups → may_follow b g ≡ true → marked g bytes ≡ true
+next_in : (groups : List Group) (b : PartBook) (bytes : List ℕ) (g : Group) → g ∈ groups → may_follow b g ≡ true → marked g bytes ≡ true
     → next_group groups b bytes ≡ Some g
 next_in [] b bytes g i f m = elim i [ ]
 next_in (h ∷ more) b bytes g (Memᴰ.head e) f m = rw e (there (subst (λ (k : Group). may_follow b k ≡ true) e f) (subst (λ (k : Group). marked k bytes ≡ true) e m))
@@ -135,7 +138,25 @@ next_in (h ∷ more) b bytes g (Memᴰ.tail i) f m = by (may_follow b h && marke
         ap (λ (t : Bool). cond t (Some h) (next_group more b bytes)) p ∙ ap Some (one_mark h g bytes q.1 m)
     by false p e = ap (λ (t : Bool). cond t (Some h) (next_group more b bytes)) p ∙ e
 
--- no group's record can follow
-pub next_none : (groups : List Group) (b : PartBook) (bytes : List ℕ) → ((g : Group) → g ∈ groups → may_follow b g && marked g bytes ≡ false) → next_group groups b bytes ≡ None
-next_none [] b bytes h = refl
-next_none (g ∷ more) b bytes h = ap (λ (t : Bool). cond t (Some g) (next_group more b bytes)) (h g (Memᴰ.head refl)) ∙ next_none more b bytes (λ k m. h k (Memᴰ.tail m))
+-- is a record whose mark stands there whole, and then its own questions
+abbrev pub after_mark : Group → PartBook → List ℕ → List Question
+after_mark g b bytes = ask 12 (whole g bytes) ∷ own_questions g b bytes
+
+-- where the mark of a group of the file stands that may follow
+module _ (groups : List Group) (b : PartBook) (bytes : List ℕ) (g : Group) (among : g ∈ groups) (follows : may_follow b g ≡ true) (mark : marked g bytes ≡ true) where
+  next : next_group groups b bytes ≡ Some g
+  next = next_in groups b bytes g among follows mark
+
+  some : 1 < length bytes
+  some = mark_two g bytes mark
+
+  pub asks : asked (next_questions groups b bytes) (tt {0}) ≡ asked (after_mark g b bytes) (tt {0})
+  asks =
+      asked_by groups b bytes (Some g) next
+      ∙ ap (λ (t : Bool). asked (ask 12 (not t) ∷ mark_questions (Some g) b bytes) (tt {0})) (ne_eqb (length bytes) 1 (λ e. omega (arith, some)))
+
+  -- reading on, by the answer of these questions
+  pub marked_turn : (a : Result (Unit {0}) ℕ) → a ≡ asked (after_mark g b bytes) (tt {0})
+      → read_after groups b bytes ≡ onward (at_record (records_in b) a) (λ _. read_after groups (with_record (Some g) b bytes) (drop (layout g).size bytes))
+  marked_turn (Ok u) e = after_taken groups b bytes g (omega (arith, some)) next (asks ∙ sym e)
+  marked_turn (Err n) e = after_refused groups b bytes n (omega (arith, some)) (asks ∙ sym e)

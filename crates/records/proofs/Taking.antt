@@ -1,7 +1,7 @@
 -- Taking a record: the book with it is lawful, and its encoding goes on by the record's bytes.
-use Rattle.std.proofs.Common.{◌≡◌, ℕ, ◌+◌, ◌<◌, ◌≤◌, Bool, true, false, cond, not, ◌||◌, eqb, ltb, List, [], ◌∷◌, ◌++◌, length, drop, Ok, Some, Option, sym, refl, ap, ◌∙◌, subst, inl, inr, append_assoc, append-nil, arith}
+use Rattle.std.proofs.Common.{◌≡◌, ℕ, ◌+◌, ◌<◌, ◌≤◌, Bool, true, false, cond, not, ◌||◌, eqb, ltb, List, [], ◌∷◌, ◌++◌, length, drop, Ok, Some, sym, refl, ap, ◌∙◌, subst, inl, inr, append_assoc, append-nil, arith}
 use mathlib.Core.List.Memᴰ
-use Rattle.std.proofs.lemmas.List.{length-append, length_push, nil_from_length}
+use Rattle.std.proofs.lemmas.List.{length_push, nil_from_length}
 use Rattle.std.proofs.lemmas.Bool.{and_parts, not-true, eqb-true, leb-true, ltb-true}
 use Rattle.terms.specs.declared.row.Row.{Row}
 use Rattle.terms.specs.declared.fact.Fact.{Fact}
@@ -11,26 +11,21 @@ use Rattle.terms.specs.Worlds.{◌∈◌}
 use Rattle.terms.proofs.Asking.{answers, all_yes}
 use Rattle.book.specs.Drafts.{rule_questions}
 use Rattle.book.proofs.Taking.{yes_lawful, lawful_push}
-use Rattle.stores.specs.Meaning.{Meaning, listed, tell_questions}
-use Rattle.stores.proofs.Keeping.{lawful_yes, means_more}
+use Rattle.stores.specs.Meaning.{listed, tell_questions}
+use Rattle.stores.proofs.Keeping.{lawful_yes}
 use Rattle.layout.specs.declared.Group.{Group}
 use Rattle.layout.specs.declared.Group.TheVariants.{Rule, Factory, Site}
 use Rattle.layout.specs.Layout.{layout, encoded_row, encoded_rows, encoded_fact, encoded_facts, marked, whole, row_in, fact_in}
-use Rattle.layout.proofs.Records.{row_forth, fact_forth, facts_length, rows_more, facts_more}
+use Rattle.layout.proofs.Records.{row_forth, fact_forth, rows_more, facts_more}
 use Rattle.records.specs.Books.{PartBook, told, facts_of, places_left, encoded_book, Four, Lawful, InGroups}
-use Rattle.records.specs.Reading.{may_follow, next_group, own_questions, mark_questions, next_questions, with_record}
-use Rattle.records.proofs.Stepping.{next_is}
+use Rattle.records.specs.Reading.{may_follow, next_group, own_questions, next_questions, with_record}
+use Rattle.records.proofs.Books.{told_append, few_factory, means_push}
+use Rattle.records.proofs.Stepping.{next_is, after_mark, asks}
 
 pub record Taken (groups : List Group) (b : PartBook) (bytes : List ℕ) (g : Group) : Type 0 where
   pub lawful : Lawful (with_record (Some g) b bytes)
   pub groups_of : InGroups groups (with_record (Some g) b bytes)
   pub encoded : encoded_book (with_record (Some g) b bytes) ++ drop (layout g).size bytes ≡ encoded_book b ++ bytes
-
--- one fact more is told last
-pub told_more : (facts more : List Fact) (f : Fact)
-    → told facts (more ++ f ∷ []) ≡ cond (listed (told facts more) f) (told facts more) (told facts more ++ f ∷ [])
-told_more facts [] f = refl
-told_more facts (g ∷ more) f = told_more (cond (listed facts g) facts (facts ++ g ∷ [])) more f
 
 four_push : (rows : List Row) (r : Row) → Four rows → length r.features ≡ 4 → Four (rows ++ r ∷ [])
 four_push [] r f e = (e, tt)
@@ -50,15 +45,6 @@ module _ (b : PartBook) where
   no_site : may_follow b Factory ≡ true → b.site ≡ []
   no_site f = nil_from_length b.site (eqb-true (length b.site) 0 f)
 
-  -- a short file has few factory facts
-  few_factory : (bytes : List ℕ) → length (encoded_book b ++ bytes) < 32768 → length b.factory < 65536
-  few_factory bytes h =
-      let l = length-append (encoded_book b) bytes in
-      let m = length-append (encoded_rows b.rows) (encoded_facts Factory b.factory ++ encoded_facts Site b.site) in
-      let n = length-append (encoded_facts Factory b.factory) (encoded_facts Site b.site) in
-      let k = facts_length Factory b.factory in
-      omega arith
-
   module _ (l : Lawful b) where
     -- the book with a row, a factory fact or a site fact more is lawful
     with_row : (r : Row) → AllYes (rule_questions b.rows r) → length r.features ≡ 4
@@ -75,16 +61,15 @@ module _ (b : PartBook) where
           few_new = l.few_new;
         }
 
-    with_factory : (f : Fact) → asked (fact_questions f) (tt {0}) ≡ Ok tt → listed b.factory f ≡ false → b.site ≡ [] → length b.factory < 65536
+    with_factory : (f : Fact) → asked (fact_questions f) (tt {0}) ≡ Ok tt → listed b.factory f ≡ false → b.site ≡ [] → length b.factory < 32768
         → Lawful (record { rows = b.rows; factory = b.factory ++ f ∷ []; site = b.site })
     with_factory f q new none few =
-        let m : Meaning b.factory 1 = record { lawful = l.factory.lawful; different = l.factory.different; short = l.factory.short; fits = omega arith } in
         let e : length (told (b.factory ++ f ∷ []) b.site) ≡ length (b.factory ++ f ∷ []) = ap (λ (s : List Fact). length (told (b.factory ++ f ∷ []) s)) none in
         record {
           rows = l.rows;
           four = l.four;
           few_rows = l.few_rows;
-          factory = means_more b.factory 1 f m q new (omega arith);
+          factory = means_push b.factory f l.factory (omega arith) q new;
           site = l.site;
           few_new = omega arith;
         }
@@ -92,10 +77,10 @@ module _ (b : PartBook) where
     -- where a place is free, one fact more may be new
     few_with : (f : Fact) (t : Bool) → listed (facts_of b) f ≡ t → (t || ltb 0 (places_left b)) ≡ true → length (told b.factory (b.site ++ f ∷ [])) ≤ length b.factory + 64
     few_with f true e p =
-        let m = ap length (told_more b.factory b.site f ∙ ap (λ (t : Bool). cond t (facts_of b) (facts_of b ++ f ∷ [])) e) in
+        let m = ap length (told_append b.factory b.site (f ∷ []) ∙ ap (λ (t : Bool). cond t (facts_of b) (facts_of b ++ f ∷ [])) e) in
         omega (arith, l.few_new)
     few_with f false e p =
-        let m = ap length (told_more b.factory b.site f ∙ ap (λ (t : Bool). cond t (facts_of b) (facts_of b ++ f ∷ [])) e) in
+        let m = ap length (told_append b.factory b.site (f ∷ []) ∙ ap (λ (t : Bool). cond t (facts_of b) (facts_of b ++ f ∷ [])) e) in
         let n = length_push (facts_of b) f in
         let s = ltb-true 0 (places_left b) p in
         omega arith
@@ -172,11 +157,10 @@ pub taken : (groups : List Group) (b : PartBook) (bytes : List ℕ) (g : Group) 
     → next_group groups b bytes ≡ Some g → asked (next_questions groups b bytes) (tt {0}) ≡ Ok tt → Taken groups b bytes g
 taken groups b bytes g l i h n a =
     let s = next_is groups b bytes g n in
-    let qs : Option Group → List Question = λ o. ask 12 (not (eqb (length bytes) 1)) ∷ mark_questions o b bytes in
-    let e = subst (λ (o : Option Group). asked (qs o) (tt {0}) ≡ Ok tt) n a in
-    let y = (answers tt (qs (Some g)) (asked (qs (Some g)) (tt {0})) refl).accepted.0 e in
+    let qs = after_mark g b bytes in
+    let y = (answers tt qs (asked qs (tt {0})) refl).accepted.0 (sym (asks groups b bytes g s.among s.follows s.marks) ∙ a) in
     record {
-      lawful = lawful_on b bytes g l h s.follows y.1.1.1;
+      lawful = lawful_on b bytes g l h s.follows y.1;
       groups_of = in_groups groups b bytes g s.among i;
-      encoded = encoded_on b bytes g s.follows s.marks y.1.1.0;
+      encoded = encoded_on b bytes g s.follows s.marks y.0;
     }

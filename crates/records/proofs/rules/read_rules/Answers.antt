@@ -1,9 +1,10 @@
-use Rattle.std.proofs.Common.{◌≡◌, ℕ, Ok, Err, rules, sym, ap, ◌∙◌}
+use Rattle.std.proofs.Common.{◌≡◌, ℕ, ◌/◌, length, Ok, Err, rules, sym, ap, ◌∙◌}
 use Rattle.std.proofs.lemmas.Result.{err_from_is_err_and}
 use Rattle.terms.specs.Refusals.{done}
 use Rattle.book.specs.Drafts.{listed}
 use Rattle.records.specs.Faults.{at_record, refused}
-use Rattle.records.proofs.Rows.{underway_none, turn_none, chunk_marked, turn_faults, turn_takes}
+use Rattle.records.proofs.Chunks.{chunked_end, chunk_ends}
+use Rattle.records.proofs.Rows.{underway_none, turn_faults, turn_takes}
 use Rattle.records.proofs.rules.read_rules.Goals as goal
 
 pub loop-index-init : goal.loop-index-init
@@ -13,14 +14,13 @@ pub returns-then-not-marks : goal.returns-then-not-marks
 returns-then-not-marks c =
     let s = c.in-Some.ensures.steps in
     let u = c.loop-index.invariant in
-    let m = c.if-not-marks.ensures ∙ chunk_marked _ _ _ _ _ u c.in-Some.record.now _ s.0.1.0 s.0.1.1 in
-    rw s.1 (u.counted, record { inside = u.inside; unmarked = sym m }, u.left)
+    rw s.1 (u.counted, chunk_ends u.chunks c.in-Some.record.now _ s.0.1.0 s.0.1.1 c.if-not-marks.ensures, u.left)
 
 pub loop-index-preserved : goal.loop-index-preserved
 loop-index-preserved c =
     let s = c.in-Some.ensures.steps in
     let there : Ok tt ≡ at_record c.loop-index.index-iterator.count (done c.take_rule.result) = search rules in
-    rw (s.0.0, s.2) (turn_takes _ _ _ _ _ c.loop-index.invariant c.in-Some.record.now _ s.0.1.0 s.0.1.1 c.take_rule.result c.if-not-marks.ensures c.take_rule.ensures.answer
+    rw (s.0.0, s.2) (turn_takes c.loop-index.invariant c.in-Some.record.now _ s.0.1.0 s.0.1.1 c.take_rule.result c.if-not-marks.ensures c.take_rule.ensures.answer
     (listed c.take_rule.new.draft) there c.take_rule.ensures.after)
 
 pub returns-in_err-map_err : goal.returns-in_err-map_err
@@ -29,11 +29,11 @@ returns-in_err-map_err c =
     let p = err_from_is_err_and c.from_residual.result c.from_residual.ensures.1 in
     let f = c.in_err-map_err.field-0.0 in
     let there : Err (refused f) ≡ at_record c.in-Some.index (done c.take_rule.result) = search rules in
-    rw (p.1, p.2) (turn_faults _ _ _ _ _ c.loop-index.invariant c.in-Some.record.now _ s.0.1.0 s.0.1.1 c.take_rule.result c.if-not-marks.ensures c.take_rule.ensures.answer
+    rw (p.1, p.2) (turn_faults c.loop-index.invariant c.in-Some.record.now _ s.0.1.0 s.0.1.1 c.take_rule.result c.if-not-marks.ensures c.take_rule.ensures.answer
     _ (there ∙ ap (λ (k : ℕ). at_record k (done c.take_rule.result)) s.1))
 
 pub returns : goal.returns
 returns c =
     let u = c.loop-index.invariant in
-    let e = turn_none _ _ _ _ _ u c.in-None.ensures.steps.0.1.0 in
-    rw (c.size-size.ensures, e.0) (u.counted, record { inside = u.inside; unmarked = e.1 }, u.left)
+    let e = chunked_end u.chunks c.in-None.ensures.steps.0.1.0 in
+    rw (ap (λ (n : ℕ). length c.args.bytes.now / n) (c.size-size.ensures ∙ sym u.chunks.sized) ∙ e.0) (u.counted, e.1, u.left)
