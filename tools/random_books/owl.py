@@ -1,8 +1,9 @@
 """Books without keys as OWL ontologies, for the reasoner Konclude.
 
 A feature is a functional property that everything has a value of. Nothing says that two individuals are two objects.
-A row of kind 3 says that all values are in the right class, rather than that some value is: it comes to the same, as
-there is one value, and docs/RANDOM_BOOKS.md tells what Konclude makes of the other.
+A row of kind 3 says that all values of what is in the left class are in the right one, rather than that some value is;
+a row of kind 4 says that what is in the left class is a value only of what is in the right one. As there is one value,
+these are the rules' sentences; docs/RANDOM_BOOKS.md tells what Konclude makes of shorter ways to say them.
 """
 import re
 import shutil
@@ -70,7 +71,7 @@ def rule(row):
     if row.kind == LEADS:
         return within(left, every(row.features[0], right))
     if row.kind == PULLS:
-        return within(some(row.features[0], left), right)
+        return within(left, f"ObjectAllValuesFrom(ObjectInverseOf(:f{row.features[0]}) {right})")
     raise ValueError("a key is not asked of Konclude")
 
 
