@@ -1,6 +1,6 @@
 use Rattle.std.proofs.Common.{◌≡◌, [], ◌∷◌, ◌++◌, string_bytes, ◌∙◌, append_assoc}
 use Rattle.std.proofs.lemmas.Result.{IfOk-weaker}
-use Rattle.records.specs.Records.{fault_text}
+use Rattle.records.specs.Faults.{fault_text}
 use Rattle.listing.specs.Lines.{refusal_line}
 use Rattle.listing.proofs.refusal_line.Goals as goal
 
