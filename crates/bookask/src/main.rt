@@ -1,10 +1,11 @@
 // Answers a script of calls on a book: for each line of standard input one line.
 #![tactic(auto)]
 
-use crate::books::{Opened, open};
 use crate::replies::reply;
 use anyhow::Context;
 use judge::sheet::Sheet;
+use records::opened::Opened;
+use records::reading::read_book;
 use script::ask::Ask;
 use script::reading::read;
 use std::alloc::{AllocError, Global};
@@ -12,7 +13,6 @@ use std::io::{BufRead, BufReader};
 use std::process::ExitCode;
 use std::{env, fs, str};
 
-mod books;
 mod replies;
 
 // The call that a line asks for; the line's end is none of its text.
@@ -53,7 +53,7 @@ fn main(rt: HostRuntime) -> anyhow::Result<ExitCode> {
         .nth(1)
         .context("the name of a book is not told")?;
     let bytes = fs::read(&rt, &name).context("the book cannot be read")?;
-    match open(&bytes) {
+    match read_book(&bytes) {
         Ok(mut opened) => answer_script(&rt, &mut opened),
         Err(fault) => {
             rt.println(fault)?;

@@ -1,8 +1,8 @@
 // A call of a script, made and answered by a line.
-use crate::books::Opened;
 use anyhow::Context;
 use judge::sheet::Sheet;
 use judge::verdict::Verdict;
+use records::opened::Opened;
 use runs::call::{Answer, Call, Entry};
 use runs::running::run;
 use script::ask::Ask;
