@@ -15,11 +15,6 @@ mark_front Rule bytes m = (starts_is Decides-eqb bytes (layout Rule).mark (marke
 mark_front Factory bytes m = (starts_is Decides-eqb bytes (layout Factory).mark (marked Factory bytes) refl).0 m
 mark_front Site bytes m = (starts_is Decides-eqb bytes (layout Site).mark (marked Site bytes) refl).0 m
 
-pub mark_back : (g : Group) (rest : List ℕ) → marked g ((layout g).mark ++ rest) ≡ true
-mark_back Rule rest = refl
-mark_back Factory rest = refl
-mark_back Site rest = refl
-
 -- a mark has two bytes
 pub mark_two : (g : Group) (bytes : List ℕ) → marked g bytes ≡ true → 2 ≤ length bytes
 mark_two Rule bytes m = let e = ap length (mark_front Rule bytes m) in omega arith
@@ -80,11 +75,6 @@ four_back (a ∷ b ∷ c ∷ d ∷ e ∷ fs) rest h = absurd (omega arith)
 
 pub row_back : (r : Row) (rest : List ℕ) → length r.features ≡ 4 → row_in (encoded_row r ++ rest) ≡ r
 row_back r rest h = ap (λ (fs : List ℕ). let z : Row = record { kind = r.kind; left = r.left; right = r.right; count = r.count; features = fs } in z) (four_back r.features rest h)
-
-pub fact_back : (g : Group) (f : Fact) (rest : List ℕ) → fact_in (encoded_fact g f ++ rest) ≡ f
-fact_back Rule f rest = refl
-fact_back Factory f rest = refl
-fact_back Site f rest = refl
 
 -- the lengths of encodings
 pub fact_length : (g : Group) (f : Fact) → length (encoded_fact g f) ≡ 6
