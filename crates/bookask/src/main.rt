@@ -1,6 +1,11 @@
 // Answers a script of calls on a book: for each line of standard input one line.
 #![tactic(auto)]
 
+ghost use Rattle.std.specs.Prelude.{◌≡◌, ◌↔◌, option_map, IfOk, Some};
+ghost use Rattle.std.specs.Io.BufRead.{strip_last};
+ghost use Rattle.script.specs.Lines.{Meant, meant};
+ghost use Rattle.bookask.specs.Replies.{AsksFor};
+
 use crate::replies::reply;
 use anyhow::Context;
 use judge::sheet::Sheet;
@@ -15,10 +20,21 @@ use std::{env, fs, str};
 
 mod replies;
 
-// The call that a line asks for; the line's end is none of its text.
-fn asked(heap: Global, line: &[u8]) -> Result<Option<Ask>, AllocError> {
-    let line = line.strip_suffix(b"\n").unwrap_or(line);
-    match str::from_utf8(line) {
+// A line without its end.
+fn text_of(line: &[u8]) -> &[u8]
+    ensures { result.now ≡ strip_last 10 line.now }
+{
+    match line {
+        [text @ .., b'\n'] => text,
+        _ => line,
+    }
+}
+
+// The call that a line asks for.
+fn asked(heap: Global, line: &[u8]) -> Result<Option<Ask>, AllocError>
+    ensures { IfOk result (λ ask. (m : Meant) → (option_map meant ask ≡ Some m) ↔ AsksFor m line.now) }
+{
+    match str::from_utf8(text_of(line)) {
         Ok(text) => read(heap, text),
         Err(_) => Ok(None),
     }

@@ -1,0 +1,2 @@
+-- What the program answers to a line.
+pub mod Replies
