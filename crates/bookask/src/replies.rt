@@ -3,7 +3,7 @@ ghost use Rattle.std.specs.Prelude.{◌≡◌, IfOk, string_bytes};
 ghost use Rattle.stores.specs.Piles.{pile_facts, pile_room};
 ghost use Rattle.image.specs.Images.{image_facts};
 ghost use Rattle.runs.specs.Accounts.{Performed};
-ghost use Rattle.script.specs.Lines.{meant};
+ghost use Rattle.script.specs.Lines.{judge, meant, word};
 ghost use Rattle.bookask.specs.Replies.{Replied, letters_words, line_of};
 
 use judge::sheet::Sheet;
@@ -59,8 +59,37 @@ fn made(opened: &mut Opened, sheet: &mut Sheet, call: &mut Call) -> Answer
     perform(&opened.book, &mut opened.store, sheet, call)
 }
 
-// Makes the call that is asked for, with work areas that are just large enough or a buffer for the longest word, and answers
-// the line.
+// Judges, with work areas that are just large enough, and answers the line.
+fn judge_line(heap: Global, opened: &mut Opened, sheet: &mut Sheet) -> Result<String, AllocError>
+    ensures { Replied opened.old sheet.old judge result opened.new sheet.new }
+{
+    let mut pairs = [ClassPair::default(); 4096];
+    let mut parts = [0; 256];
+    let mut call = Call::Judge {
+        pairs: &mut pairs,
+        parts: &mut parts,
+    };
+    let answer = made(opened, sheet, &mut call);
+    line_of(heap, answer, &[])
+}
+
+// Asks for the letters of the clash, with a buffer for the longest word, and answers the line.
+fn word_line(heap: Global, opened: &mut Opened, sheet: &mut Sheet) -> Result<String, AllocError>
+    ensures { Replied opened.old sheet.old word result opened.new sheet.new }
+{
+    let mut letters = [0; 2079];
+    let mut call = Call::Word {
+        place: 0,
+        out: &mut letters,
+    };
+    let answer = made(opened, sheet, &mut call);
+    let Call::Word { out, .. } = call else {
+        unreachable!()
+    };
+    line_of(heap, answer, out)
+}
+
+// Makes the call that is asked for, and answers the line.
 pub fn reply(
     heap: Global,
     opened: &mut Opened,
@@ -74,16 +103,7 @@ pub fn reply(
             let answer = made(opened, sheet, &mut Call::Tell { fact: *fact });
             line_of(heap, answer, &[])
         }
-        Ask::Judge => {
-            let mut pairs = [ClassPair::default(); 4096];
-            let mut parts = [0; 256];
-            let mut call = Call::Judge {
-                pairs: &mut pairs,
-                parts: &mut parts,
-            };
-            let answer = made(opened, sheet, &mut call);
-            line_of(heap, answer, &[])
-        }
+        Ask::Judge => judge_line(heap, opened, sheet),
         Ask::Member { part, word, class } => {
             let mut call = Call::Member {
                 part: *part,
@@ -97,17 +117,6 @@ pub fn reply(
             let answer = made(opened, sheet, &mut Call::Same { p: *p, q: *q });
             line_of(heap, answer, &[])
         }
-        Ask::Word => {
-            let mut letters = [0; 2079];
-            let mut call = Call::Word {
-                place: 0,
-                out: &mut letters,
-            };
-            let answer = made(opened, sheet, &mut call);
-            let Call::Word { out, .. } = call else {
-                unreachable!()
-            };
-            line_of(heap, answer, out)
-        }
+        Ask::Word => word_line(heap, opened, sheet),
     }
 }
