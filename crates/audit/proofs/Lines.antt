@@ -11,9 +11,9 @@ use Rattle.std.proofs.lemmas.List.Folds.{list_all-append}
 use Rattle.search.specs.declared.Found.{Found}
 use Rattle.judge.specs.declared.verdict.Verdict.{Verdict}
 use Rattle.judge.specs.declared.verdict.Verdict.TheVariants.{Stands, Clash}
-use Rattle.judge.specs.Verdicts.{low, numbers, report_text, saying}
+use Rattle.judge.specs.Verdicts.{clash_line, low, numbers, report_text, saying}
 use Rattle.records.specs.Faults.{Refused}
-use Rattle.audit.specs.Audits.{LastLine, clash_line, fault_line}
+use Rattle.audit.specs.Audits.{LastLine, fault_line}
 
 -- is the byte c nowhere in the list?
 abbrev pub lacks : ℕ → List ℕ → Bool

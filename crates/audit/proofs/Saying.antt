@@ -12,12 +12,12 @@ use Rattle.terms.specs.Verdicts.{Shortest}
 use Rattle.judge.specs.declared.verdict.Verdict.{Verdict}
 use Rattle.judge.specs.declared.verdict.Verdict.TheVariants.{Stands, Clash}
 use Rattle.judge.specs.Texts.{Writes, fits}
-use Rattle.judge.specs.Verdicts.{low, report_text, saying}
+use Rattle.judge.specs.Verdicts.{clash_line, low, report_text, saying}
 use Rattle.records.specs.Faults.{Refused, onward}
 use Rattle.records.specs.Books.{PartBook, facts_of}
 use Rattle.records.specs.Reading.{LayoutLaw, all_groups, file_read}
 use Rattle.records.specs.Opened.{Content, said_by}
-use Rattle.audit.specs.Audits.{Allowed, Kept, LastLine, ShortestClash, claims_in, clash_line, fault_line}
+use Rattle.audit.specs.Audits.{Allowed, Kept, LastLine, ShortestClash, claims_in, fault_line}
 use Rattle.audit.proofs.Claims.{all_claims, judged_claims, keeps_into, shortest_same}
 use Rattle.audit.proofs.Lines.{same_last, stands_no_end, clash_no_end, report_stands, report_clash, refusal_has_none, stands_no_clash, clash_same}
 

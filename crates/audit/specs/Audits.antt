@@ -10,7 +10,7 @@ use Rattle.search.specs.declared.Found.{Found}
 use Rattle.judge.specs.declared.verdict.Verdict.{Verdict}
 use Rattle.judge.specs.declared.verdict.Verdict.TheVariants.{Stands, Clash}
 use Rattle.judge.specs.Texts.{Writes}
-use Rattle.judge.specs.Verdicts.{low, numbers, report_text, saying}
+use Rattle.judge.specs.Verdicts.{low, report_text, saying}
 use Rattle.records.specs.Faults.{Refused}
 use Rattle.records.specs.Books.{PartBook, facts_of}
 use Rattle.records.specs.Reading.{Accepted, all_groups}
@@ -29,24 +29,24 @@ pub record ReportOf (rows : List Row) (facts : List Fact) (v : Verdict) (w : Lis
   pub allowed : Allowed rows facts v w
   pub writes : Writes [] (report_text (length rows) (length facts) v w) 0 old new r
 
--- so it is of some verdict
+-- the report of some verdict that the rows and facts allow is written, or does not fit
 abbrev pub Reported : List Row → List Fact → List ℕ → List ℕ → Result ℕ Refusal → Type 0
 Reported rows facts old new r = (v : Verdict) × (w : List ℕ) × ReportOf rows facts v w old new r
+
+-- the line of a refusal of record k with the number n is written, or does not fit
+abbrev pub RefusalWritten : ℕ → ℕ → List ℕ → List ℕ → Result ℕ Refusal → Type 0
+RefusalWritten n k old new r = Writes [] (fault_line (record { number_of = n; index = k })) 0 old new r
 
 -- of a book that was read its report is written, and of a refusal its line
 abbrev pub Audited : Result PartBook Refused → List ℕ → List ℕ → Result ℕ Refusal → Type 0
 Audited (Ok b) old new r = Reported b.rows (facts_of b) old new r
 Audited (Err e) old new r = Writes [] (fault_line e) 0 old new r
 
--- the text ends with the line
+-- the text ends with the line, which stands after another one
 abbrev pub LastLine : List ℕ → List ℕ → Type 0
 LastLine text line = (front : List ℕ) × (text ≡ front ++ 10 ∷ (line ++ 10 ∷ []))
 
--- the line that names a clash
-abbrev pub clash_line : ℕ → ℕ → List ℕ → List ℕ
-clash_line p i w = codes "clash part" ++ ((32 ∷ decimal p) ++ (codes " row" ++ ((32 ∷ decimal i) ++ (codes " word" ++ numbers w))))
-
--- the rules of a book, and all that its records claim
+-- all that the facts of a book claim, those of the factory and those of the site
 abbrev pub claims_in : PartBook → List Claim
 claims_in b = claims_of (b.factory ++ b.site)
 

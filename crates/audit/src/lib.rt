@@ -2,11 +2,12 @@
 #![tactic(auto)]
 
 ghost use Rattle.std.specs.Prelude.{◌≡◌, ◌≤◌, ◌↔◌, ℕ, List, length, take, codes, IfOk, IsOk};
-ghost use Rattle.audit.specs.Audits.{Audited, BookReported, Kept, LastLine, ShortestClash, clash_line, fault_line};
+ghost use Rattle.audit.specs.Audits.{Audited, BookReported, Kept, LastLine, RefusalWritten, Reported, ShortestClash, fault_line};
+ghost use Rattle.records.specs.Books.{PartBook, facts_of};
 ghost use Rattle.records.specs.Faults.{refused};
-ghost use Rattle.records.specs.Reading.{LayoutLaw, all_groups, file_read};
+ghost use Rattle.records.specs.Reading.{Accepted, LayoutLaw, RefusedAt, all_groups, file_read};
 ghost use Rattle.book.specs.Books.{rows_of};
-ghost use Rattle.judge.specs.Texts.{Writes};
+ghost use Rattle.judge.specs.Verdicts.{clash_line};
 
 use arrayvec::ArrayString;
 use book::sealed::Book;
@@ -33,7 +34,8 @@ fn fault_line(fault: Fault) -> ArrayString<64>
     line
 }
 
-// Judges the book with the facts of the store, on a sheet and with work areas of its own, and writes the report.
+// Judges the book with the facts of the store, on a sheet and with work areas of its own (docs/DECISIONS.md), and writes the
+// report.
 fn report_book<S: Store>(book: &Book, store: &S, out: &mut [u8]) -> Result<usize, Refusal>
     requires { S.Store.valid store.now }
     ensures { BookReported (rows_of book.now) (S.Store.facts store.now) out.old out.new result }
@@ -51,6 +53,8 @@ fn report_book<S: Store>(book: &Book, store: &S, out: &mut [u8]) -> Result<usize
 pub fn audit(input: &[u8], out: &mut [u8]) -> Result<usize, Refusal>
     ensures audited { Audited (file_read all_groups input.now) out.old out.new result }
     ensures law { LayoutLaw all_groups input.now }
+    ensures accepted { (b : PartBook) → Accepted all_groups input.now b → Reported b.rows (facts_of b) out.old out.new result }
+    ensures refused { (n k : ℕ) → RefusedAt all_groups input.now n k → RefusalWritten n k out.old out.new result }
     ensures bound { IfOk result (λ n. n ≤ length out.new) }
     ensures room { 8192 ≤ length out.old → IsOk result }
     ensures stands { IfOk result (λ n. LastLine (take n out.new) (codes "stands") ↔ Kept input.now) }

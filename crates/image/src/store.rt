@@ -8,7 +8,7 @@ use stores::told::{Told, answer};
 use terms::fact::Fact;
 use terms::refusal::Refusal;
 
-// The bytes are the records of the list, and nothing is copied.
+// The bytes are the records of the list, and nothing is copied: a form that the project keeps (docs/DECISIONS.md).
 #[derive(Drop)]
 pub struct ImageStore<'a> {
     bytes: &'a [u8],

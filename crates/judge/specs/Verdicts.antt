@@ -11,6 +11,10 @@ abbrev pub numbers : List ℕ → List ℕ
 numbers [] = []
 numbers (n ∷ w) = (32 ∷ decimal n) ++ numbers w
 
+-- the line that names a clash, but for its end
+abbrev pub clash_line : ℕ → ℕ → List ℕ → List ℕ
+clash_line p i w = codes "clash part" ++ ((32 ∷ decimal p) ++ (codes " row" ++ ((32 ∷ decimal i) ++ (codes " word" ++ numbers w))))
+
 -- what a verdict says of rules and claims with its word, how long the word is, and the line of a report
 pub record Saying : Type 1 where
   pub says : List Rule → List Claim → List ℕ → Type 0
@@ -26,7 +30,7 @@ saying Stands = record {
 saying (Clash k) = record {
   says = λ R F w. verdicts.Shortest R F k.part w k.row;
   size = k.length;
-  line = λ w. codes "clash part" ++ ((32 ∷ decimal k.part) ++ (codes " row" ++ ((32 ∷ decimal k.row) ++ (codes " word" ++ (numbers w ++ codes "\n")))));
+  line = λ w. clash_line k.part k.row w ++ codes "\n";
 }
 
 -- the lines of a report: the number of rows, the number of facts, and the verdict with its word

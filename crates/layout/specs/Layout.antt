@@ -35,10 +35,11 @@ abbrev pub encoded_facts : Group → List Fact → List ℕ
 encoded_facts g [] = []
 encoded_facts g (f ∷ facts) = encoded_fact g f ++ encoded_facts g facts
 
--- does the group's mark stand at the front of the bytes, and do they hold a whole record of the group?
+-- does the group's mark stand at the front of the bytes?
 abbrev pub marked : Group → List ℕ → Bool
 marked g bytes = starts_with nat_eq bytes (layout g).mark
 
+-- are the bytes as many as a record of the group has, or more?
 abbrev pub whole : Group → List ℕ → Bool
 whole g bytes = nat_le (layout g).size (length bytes)
 

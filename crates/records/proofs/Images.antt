@@ -16,7 +16,7 @@ use Rattle.layout.proofs.Records.{fact_forth, facts_length, facts_more}
 use Rattle.image.specs.SoundParts.{LongestSound}
 use Rattle.records.specs.Faults.{Refused, at_record}
 use Rattle.records.specs.Reading.{read_after, all_groups}
-use Rattle.records.specs.Groups.{Ends, Onward, past, rows_alone, no_site, after_image_questions}
+use Rattle.records.specs.Groups.{Ends, ReadsOn, past, rows_alone, no_site, after_image_questions}
 use Rattle.records.proofs.Books.{means_push}
 use Rattle.records.proofs.Stepping.{after_mark, marked_turn}
 use Rattle.records.proofs.Past.{past_factory}
@@ -56,7 +56,7 @@ module _ (bytes part : List ℕ) (facts : List Fact) (law : LongestSound bytes p
       ∙ ap (λ (x : List ℕ). x ++ drop (6 * length facts) bytes) (ap (λ (k : ℕ). take k bytes) (sym part_length) ∙ sym law.front ∙ law.sound.records)
 
   -- reading goes past the image
-  pub image_passed : (rows : List Row) → Onward all_groups (rows_alone rows) bytes (no_site rows facts) (past Factory (length facts) bytes)
+  pub image_passed : (rows : List Row) → ReadsOn all_groups (rows_alone rows) bytes (no_site rows facts) (past Factory (length facts) bytes)
   image_passed rows = ap (read_after all_groups (rows_alone rows)) image_cut ∙ past_factory all_groups rows [] facts (drop (6 * length facts) bytes) (Memᴰ.tail (Memᴰ.head refl)) law.sound.means
 
   module _ (rest : List ℕ) (r : rest ≡ past Factory (length facts) bytes) where

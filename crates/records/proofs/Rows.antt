@@ -13,7 +13,7 @@ use Rattle.layout.specs.Layout.{marked, whole, row_in}
 use Rattle.records.specs.Faults.{Refused, at_record, onward}
 use Rattle.records.specs.Books.{no_records, records_in}
 use Rattle.records.specs.Reading.{read_after}
-use Rattle.records.specs.Groups.{past, rows_alone, Onward}
+use Rattle.records.specs.Groups.{past, rows_alone, ReadsOn}
 use Rattle.records.proofs.Chunks.{front_whole, front_row, past_more, Chunked, chunked_none, chunk_there, chunk_marked, chunked_more}
 use Rattle.records.proofs.Stepping.{after_mark, marked_turn}
 
@@ -31,7 +31,7 @@ row_taken (Err f) k rows row e = absurd cc
 pub record Underway (bytes : List ℕ) (size : ℕ) (rest : List ℕ) (k : ℕ) (rows : List Row) : Type 0 where
   pub chunks : Chunked Rule bytes size rest k
   pub counted : k ≡ length rows
-  pub left : (more : List Group) → Onward (Rule ∷ more) no_records bytes (rows_alone rows) (past Rule k bytes)
+  pub left : (more : List Group) → ReadsOn (Rule ∷ more) no_records bytes (rows_alone rows) (past Rule k bytes)
 
 pub underway_none : (bytes : List ℕ) (size : ℕ) → size ≡ 10 → Underway bytes size bytes 0 []
 underway_none bytes size e = record { chunks = chunked_none Rule bytes size e; counted = refl; left = λ more. refl }

@@ -16,7 +16,7 @@ use Rattle.records.specs.Faults.{Refused, at_record, onward}
 use Rattle.records.specs.declared.Fault.{Fault}
 use Rattle.records.specs.Books.{PartBook, told, facts_of, places_left, records_in}
 use Rattle.records.specs.Reading.{with_record, read_after, all_groups}
-use Rattle.records.specs.Groups.{past, Ends, Onward, RefusedAfter, with_site, SiteRead, SiteTold}
+use Rattle.records.specs.Groups.{past, Ends, ReadsOn, RefusedAfter, with_site, SiteRead, SiteTold}
 use Rattle.records.proofs.Books.{told_append, told_longer}
 use Rattle.records.proofs.Chunks.{front_whole, front_fact, past_more, Chunked, chunked_none, chunked_end, chunk_there, chunk_marked, chunk_ends, chunked_more}
 use Rattle.records.proofs.Stepping.{marked_turn}
@@ -50,7 +50,7 @@ one_more b k bytes =
 pub record Reached (b : PartBook) (bytes : List ℕ) (k : ℕ) (now : List Fact) (free : ℕ) : Type 0 where
   pub facts : facts_of (with_site b k bytes) ≡ now
   pub left : places_left (with_site b k bytes) ≡ free
-  pub onward : Onward all_groups b bytes (with_site b k bytes) (past Site k bytes)
+  pub onward : ReadsOn all_groups b bytes (with_site b k bytes) (past Site k bytes)
 
 reached_none : (b : PartBook) (bytes : List ℕ) → Reached b bytes 0 (facts_of b) (places_left b)
 reached_none b bytes =

@@ -56,6 +56,7 @@ pub record Lawful (b : PartBook) : Type 0 where
   pub rows : all_lawful b.rows ≡ true
   pub four : Four b.rows
   pub few_rows : length b.rows ≤ 256
+  -- different lawful facts
   pub factory : Meaning b.factory 0
   pub site : (f : Fact) → f ∈ b.site → lawful_fact f ≡ true
   pub few_new : length (facts_of b) ≤ length b.factory + 64

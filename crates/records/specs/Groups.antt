@@ -5,7 +5,7 @@ use Rattle.terms.specs.declared.fact.Fact.{Fact}
 use Rattle.terms.specs.declared.refusal.Refusal.{Refusal}
 use Rattle.terms.specs.Refusals.{Question, ask, asked, done}
 use Rattle.terms.specs.Lawful.{fact_questions}
-use Rattle.book.specs.Drafts.{listed}
+use Rattle.book.specs.Drafts as drafts
 use Rattle.stores.specs.Meaning.{tell_questions}
 use Rattle.layout.specs.declared.Group.{Group}
 use Rattle.layout.specs.declared.Group.TheVariants.{Rule, Factory, Site}
@@ -23,14 +23,14 @@ use Rattle.records.specs.Reading.{read_after, all_groups}
 abbrev pub past : Group → ℕ → List ℕ → List ℕ
 past g k bytes = drop ((layout g).size * k) bytes
 
--- k records of the group stand at the front of the bytes, and no other follows them
+-- there is room for k records of the group at the front of the bytes, and after them its mark does not stand
 pub record Ends (g : Group) (k : ℕ) (bytes : List ℕ) : Type 0 where
   pub inside : (layout g).size * k ≤ length bytes
   pub unmarked : marked g (past g k bytes) ≡ false
 
 -- reading on after the first book gives what reading on after the second gives
-abbrev pub Onward : List Group → PartBook → List ℕ → PartBook → List ℕ → Type 0
-Onward groups b bytes c rest = read_after groups b bytes ≡ read_after groups c rest
+abbrev pub ReadsOn : List Group → PartBook → List ℕ → PartBook → List ℕ → Type 0
+ReadsOn groups b bytes c rest = read_after groups b bytes ≡ read_after groups c rest
 
 -- the next record after the book that is not taken is refused
 abbrev pub RefusedAfter : List Group → PartBook → List ℕ → Fault → Type 0
@@ -49,15 +49,15 @@ with_site b k bytes = record { rows = b.rows; factory = b.factory; site = b.site
 -- reading the rule records at the front, in any file that begins with them
 abbrev pub RulesRead : List ℕ → Result RuleGroup Fault → Type 0
 RulesRead bytes (Ok g) =
-    (g.records ≡ length (listed g.draft)) × Ends Rule g.records bytes
-    × ((more : List Group) → Onward (Rule ∷ more) no_records bytes (rows_alone (listed g.draft)) (past Rule g.records bytes))
+    (g.records ≡ length (drafts.listed g.draft)) × Ends Rule g.records bytes
+    × ((more : List Group) → ReadsOn (Rule ∷ more) no_records bytes (rows_alone (drafts.listed g.draft)) (past Rule g.records bytes))
 RulesRead bytes (Err f) = (more : List Group) → RefusedAfter (Rule ∷ more) no_records bytes f
 
 -- reading the factory records at the front, after rows, the first of them being record number `first`
 abbrev pub FactoryRead : List ℕ → ℕ → Result ImageStore Fault → Type 0
 FactoryRead bytes first (Ok s) =
     Ends Factory (length (image_facts s)) bytes
-    × ((rows : List Row) → Onward all_groups (rows_alone rows) bytes (no_site rows (image_facts s)) (past Factory (length (image_facts s)) bytes))
+    × ((rows : List Row) → ReadsOn all_groups (rows_alone rows) bytes (no_site rows (image_facts s)) (past Factory (length (image_facts s)) bytes))
 FactoryRead bytes first (Err f) = (rows : List Row) → length rows ≡ first → RefusedAfter all_groups (rows_alone rows) bytes f
 
 -- telling the facts of the site records at the front: before it the book's facts and free places are those of the store, and so they
@@ -66,7 +66,7 @@ abbrev pub SiteRead : List ℕ → ℕ → List Fact → ℕ → List Fact → �
 SiteRead bytes first facts room facts' room' (Ok k) =
     Ends Site k bytes
     × ((b : PartBook) → facts_of b ≡ facts → places_left b ≡ room
-    → (facts_of (with_site b k bytes) ≡ facts') × (places_left (with_site b k bytes) ≡ room') × Onward all_groups b bytes (with_site b k bytes) (past Site k bytes))
+    → (facts_of (with_site b k bytes) ≡ facts') × (places_left (with_site b k bytes) ≡ room') × ReadsOn all_groups b bytes (with_site b k bytes) (past Site k bytes))
 SiteRead bytes first facts room facts' room' (Err f) =
     (b : PartBook) → facts_of b ≡ facts → places_left b ≡ room → records_in b ≡ first → RefusedAfter all_groups b bytes f
 

@@ -3,7 +3,7 @@ use Rattle.std.specs.Prelude.{ℕ, List, Ok, Err, Result}
 use Rattle.terms.specs.declared.row.Row.{Row}
 use Rattle.terms.specs.declared.fact.Fact.{Fact}
 use Rattle.book.specs.Books.{rows_of}
-use Rattle.book.specs.Drafts.{listed}
+use Rattle.book.specs.Drafts as drafts
 use Rattle.book.specs.declared.draft.Draft.{Draft}
 use Rattle.stores.specs.Piles.{pile_facts, pile_room}
 use Rattle.image.specs.Images.{image_facts}
@@ -30,5 +30,5 @@ book_answer (Ok o) = Ok (content_of o)
 book_answer (Err f) = Err (refused f)
 
 abbrev pub draft_answer : Result Draft Fault → Result (List Row) Refused
-draft_answer (Ok d) = Ok (listed d)
+draft_answer (Ok d) = Ok (drafts.listed d)
 draft_answer (Err f) = Err (refused f)

@@ -90,10 +90,12 @@ pub record FirstRefused (groups : List Group) (bytes : List ℕ) (n k : ℕ) : T
   pub more : 0 < length rest
   pub first : FirstNo (next_questions groups before rest) n
 
--- the law of the layout: a file is accepted exactly when it is the encoding of a lawful book, and gives just that book; it is
--- refused with n at record k exactly when it is too long, or its record k is the first with a no and n is the first question
--- that has it
+-- the file is too long, which refuses record 0, or its record k is the first with a no and n is the first question that has it
+abbrev pub RefusedAt : List Group → List ℕ → ℕ → ℕ → Type 0
+RefusedAt groups bytes n k = ((32768 ≤ length bytes) × (n ≡ 15) × (k ≡ 0)) ⊎ ((length bytes < 32768) × FirstRefused groups bytes n k)
+
+-- the law of the layout: a file is accepted exactly when it is the encoding of a lawful book, and gives just that book; and
+-- just what refuses it is its refusal
 pub record LayoutLaw (groups : List Group) (bytes : List ℕ) : Type 0 where
   pub accepted : (b : PartBook) → (file_read groups bytes ≡ Ok b) ↔ Accepted groups bytes b
-  pub refused : (n k : ℕ) → (file_read groups bytes ≡ Err (record { number_of = n; index = k }))
-      ↔ (((32768 ≤ length bytes) × (n ≡ 15) × (k ≡ 0)) ⊎ ((length bytes < 32768) × FirstRefused groups bytes n k))
+  pub refused : (n k : ℕ) → (file_read groups bytes ≡ Err (record { number_of = n; index = k })) ↔ RefusedAt groups bytes n k

@@ -48,7 +48,8 @@ fn tell_record<S: Store>(store: &mut S, bytes: &[u8]) -> Result<(), Refusal>
 }
 
 // Tells the facts of the site records at the front of the bytes, the first of which has the given number; answers how many
-// there are.
+// there are. The loop is that of the rule records, over a store in the place of a draft: a function over both would have to
+// be given what a record is taken by, and each has a contract of its own.
 pub(crate) fn tell_site<S: Store>(store: &mut S, bytes: &[u8], first: usize) -> Result<usize, Fault>
     requires valid { S.Store.valid store.old }
     requires few { first + length bytes.now < 32768 }

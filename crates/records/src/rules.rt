@@ -27,7 +27,8 @@ fn take_rule(bytes: &[u8], draft: &mut Draft) -> Result<u8, Refusal>
     draft.rule(row)
 }
 
-// Takes the rule records at the front of the bytes.
+// Takes the rule records at the front of the bytes. A row's refusal travels up, and this layer adds the record's number to it: a
+// form that the project keeps (docs/DECISIONS.md).
 pub(crate) fn read_rules(bytes: &[u8]) -> Result<RuleGroup, Fault>
     ensures { RulesRead bytes.now result }
 {

@@ -1,11 +1,11 @@
 use Rattle.std.proofs.Common.{◌≡◌, ◌↔◌, ℕ, List, [], length, codes, subst, sym, ◌∙◌, Ok, Err, Result}
 use Rattle.judge.specs.Texts.{Writes}
-use Rattle.judge.specs.Verdicts.{report_text}
+use Rattle.judge.specs.Verdicts.{clash_line, report_text}
 use Rattle.records.specs.Faults.{Refused, refused}
 use Rattle.records.specs.Books.{PartBook, facts_of}
 use Rattle.records.specs.Reading.{all_groups, file_read}
 use Rattle.records.specs.Opened.{Content, content_of}
-use Rattle.audit.specs.Audits.{Audited, BookReported, Kept, LastLine, ShortestClash, clash_line, fault_line}
+use Rattle.audit.specs.Audits.{Audited, BookReported, Kept, LastLine, ShortestClash, fault_line}
 use Rattle.audit.proofs.Saying.{book_clash, book_read, book_stands, on_written, refusal_clash, refusal_read, refusal_stands}
 use Rattle.audit.proofs.audit.Goals.{After-slice_known-in-Ok-1, After-slice_known-in-Err-1}
 use Rattle.audit.proofs.audit.Goals as goal
@@ -21,6 +21,10 @@ pub returns-in-Ok-clause-audited : goal.returns-in-Ok-clause-audited
 returns-in-Ok-clause-audited c =
     let x = read c in
     subst (λ (r : Result PartBook Refused). Audited r c.args.out.now c.report_book.new.out c.report_book.result) (sym x.1) (x.2.0, x.2.1, x.2.2.report)
+
+pub returns-in-Ok-clause-refused : goal.returns-in-Ok-clause-refused
+returns-in-Ok-clause-refused c n k at =
+    subst (λ (r : Result PartBook Refused). Audited r c.args.out.now c.report_book.new.out c.report_book.result) ((c.in-Ok.ensures.law.refused n k).1 at) (returns-in-Ok-clause-audited c)
 
 pub returns-in-Ok-clause-stands : goal.returns-in-Ok-clause-stands
 returns-in-Ok-clause-stands c =
@@ -46,6 +50,10 @@ module _ (c : After-slice_known-in-Err-1) where
 
   line_written : Writes [] (fault_line (refused c.in-Err.fault)) 0 c.args.out.now c.write_at.new.out c.write_at.result
   line_written = subst (λ (text : List ℕ). Writes [] text 0 c.args.out.now c.write_at.new.out c.write_at.result) (c.as_bytes.ensures.value ∙ c.deref.ensures.0 ∙ c.fault_line.ensures) c.write_at.ensures
+
+pub returns-in-Err-clause-refused : goal.returns-in-Err-clause-refused
+returns-in-Err-clause-refused c n k at =
+    subst (λ (r : Result PartBook Refused). Audited r c.args.out.now c.write_at.new.out c.write_at.result) (sym (no_book c) ∙ (c.in-Err.ensures.law.refused n k).1 at) (line_written c)
 
 pub returns-in-Err-clause-stands : goal.returns-in-Err-clause-stands
 returns-in-Err-clause-stands c =
