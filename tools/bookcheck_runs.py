@@ -82,6 +82,10 @@ CASES = {
         [cycle(0, 30, 15), cycle(31, 63, 15), "50 52 02 1E 3F 00 00 00 00 00", "50 46 01 00 00 00  50 53 01 00 1F 00"],
         "rules 65 / facts 2 / clash part 0 row 64 word" + letters([15] * 1022),
     ],
+    # kinds
+    "row-kind-0": [[RULE, "50 52 00 00 01 00 00 00 00 00", RULE], "refused 1 record 1"],
+    "factory-kind-4": [[RULE, FACTORY, "50 46 04 08 00 00", SITE], "refused 1 record 2"],
+    "site-kind-4": [[RULE, FACTORY, SITE, "50 53 04 09 00 00"], "refused 1 record 3"],
     # classes below 64
     "class-63": [
         [
@@ -106,16 +110,22 @@ CASES = {
     "feature-16-row": [["50 52 03 00 01 01 10 00 00 00"], "refused 3 record 0"],
     "feature-16-factory": [["50 46 02 07 10 00"], "refused 3 record 0"],
     "feature-16-site": [[FACTORY, "50 53 02 07 10 00"], "refused 3 record 1"],
+    # the features of a row
+    "feature-unused-not-0": [["50 52 01 00 01 00 01 00 00 00"], "refused 4 record 0"],
     # the features of a key
+    "key-of-0": [["50 52 05 00 00 00 00 00 00 00"], "refused 4 record 0"],
+    "key-feature-twice": [["50 52 05 00 00 02 01 01 00 00"], "refused 4 record 0"],
     "key-of-4": [["50 52 05 00 00 04 00 01 02 0F"], "rules 1 / facts 0 / stands"],
     "key-of-5": [["50 52 05 00 00 05 00 01 02 0F"], "refused 4 record 0"],
     # the rows of a book
     "rows-256": [[rows(256)], "rules 256 / facts 0 / stands"],
     "rows-257": [[rows(257)], "refused 5 record 256"],
+    "rows-257-cut": [[rows(256), "50 52 01 00 01 00 00 00 00"], "refused 12 record 256"],
     "rows-257-wrong-count": [[rows(256), "50 52 01 00 01 01 00 00 00 00"], "refused 4 record 256"],
     # the site facts that are not listed already
     "site-64": [[site(64)], "rules 0 / facts 64 / stands"],
     "site-65": [[site(65)], "refused 6 record 64"],
+    "site-65-cut": [[site(64), "50 53 01 40 00"], "refused 12 record 64"],
     "site-65-third-number": [[site(64), "50 53 03 00 01 01"], "refused 4 record 64"],
     "site-64-and-listed": [
         ["50 46 01 FF 3F 00  50 53 01 FF 3F 00", site(64), "50 53 01 00 00 00  50 53 01 FF 3F 00"],
@@ -128,6 +138,7 @@ CASES = {
     "bytes-32769": [[bytes(32769)], "refused 15 record 0"],
     # facts that are listed already
     "factory-twice": [[RULE, FACTORY, "50 46 01 08 00 00", FACTORY], "refused 14 record 3"],
+    "factory-twice-cut": [[FACTORY, "50 46 01 07 00"], "refused 12 record 1"],
     "factory-twice-third-number": [[FACTORY, "50 46 01 07 00 01"], "refused 4 record 1"],
     "site-twice": [[FACTORY, "50 53 01 07 00 00", SITE, SITE], "rules 0 / facts 2 / stands"],
     # marks
