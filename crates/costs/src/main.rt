@@ -7,7 +7,7 @@ use book::sealed::Book;
 use image::sound;
 use judge::judging::judge;
 use judge::sheet::Sheet;
-use layout::decode;
+use layout::{FACT_SIZE, decode};
 use possible::possible;
 use records::reading::{read_book, read_draft};
 use search::ClassPair;
@@ -45,7 +45,7 @@ fn ask_once(input: &[u8]) -> anyhow::Result<usize> {
 fn tell_once(input: &[u8]) -> anyhow::Result<usize> {
     let mut rows = [Fact::default(); 5000];
     let mut store = RowStore::open(&mut rows);
-    let (records, _) = input.as_chunks::<6>();
+    let (records, _) = input.as_chunks::<FACT_SIZE>();
     for record in records {
         let _ = store.tell(decode(record));
     }

@@ -6,20 +6,20 @@ ghost use Rattle.stores.specs.Meaning.{listed};
 ghost use Rattle.layout.specs.Layout.{fact_in};
 ghost use Rattle.image.specs.SoundParts.{good, sound_part, sound_facts, LongestSound};
 
-use layout::{Group, decode};
+use layout::{FACT_SIZE, FactRecord, Group, decode};
 use terms::fact::Fact;
 
 pub mod store;
 
 // Is the fact that of one of the records?
-fn among(records: &[[u8; 6]], fact: Fact) -> bool
+fn among(records: &[FactRecord], fact: Fact) -> bool
     ensures { result ≡ listed (map fact_in records.now) fact }
 {
     records.iter().map(decode).any(|listed| listed == fact)
 }
 
 // Is the record marked, lawful, and none of those before it?
-fn is_good(bytes: &[u8; 6], before: &[[u8; 6]]) -> bool
+fn is_good(bytes: &FactRecord, before: &[FactRecord]) -> bool
     ensures { result ≡ good bytes.now (map fact_in before.now) }
 {
     let fact = decode(bytes);
@@ -33,7 +33,7 @@ pub fn sound(bytes: &[u8]) -> &[u8]
     ensures part { result.now ≡ sound_part bytes.now }
     ensures law { LongestSound bytes.now result.now (sound_facts bytes.now) }
 {
-    let (records, _) = bytes.as_chunks::<6>();
+    let (records, _) = bytes.as_chunks::<FACT_SIZE>();
     let records = &records[..records.len().min(65536)];
     for (place, record) in records.iter().enumerate() {
         if !is_good(record, &records[..place]) {

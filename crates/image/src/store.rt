@@ -2,7 +2,7 @@
 ghost use Rattle.image.specs.SoundParts.{ImageValid};
 
 use crate::{among, sound};
-use layout::decode;
+use layout::{FactRecord, decode};
 use stores::store::Store;
 use stores::told::{Told, answer};
 use terms::fact::Fact;
@@ -33,7 +33,7 @@ impl<'a> ImageStore<'a> {
         }
     }
 
-    fn records(&self) -> &[[u8; 6]]
+    fn records(&self) -> &[FactRecord]
         ensures { map fact_in result.now ≡ image_facts self.now }
     {
         self.bytes.as_chunks().0

@@ -10,6 +10,12 @@ use terms::fact::Fact;
 use terms::refusal::Refusal;
 use terms::row::Row;
 
+// How many bytes a factory or site record has.
+pub const FACT_SIZE: usize = 6;
+
+// A factory or site record, whole.
+pub type FactRecord = [u8; FACT_SIZE];
+
 // The groups of records, in the order in which they stand in a file.
 #[derive(Clone, Copy, PartialEq, Eq, Debug)]
 pub enum Group {
@@ -36,7 +42,7 @@ impl Group {
     {
         match self {
             Group::Rule => 10,
-            Group::Factory | Group::Site => 6,
+            Group::Factory | Group::Site => FACT_SIZE,
         }
     }
 
@@ -66,7 +72,7 @@ pub fn rule_record(bytes: &[u8]) -> Result<Row, Refusal>
 }
 
 // The fact of a factory or a site record, by its bytes.
-pub fn decode(bytes: &[u8; 6]) -> Fact
+pub fn decode(bytes: &FactRecord) -> Fact
     ensures { result ≡ fact_in bytes.now }
 {
     let [_, _, kind, first, second, third] = *bytes;
