@@ -50,7 +50,7 @@ def books(chosen):
     """The kind and the bytes of each book of the run."""
     if chosen.hex:
         return [("given", bytes.fromhex(sys.stdin.read() if chosen.hex == "-" else chosen.hex))]
-    return [write(chosen.seed, place) for place in range(chosen.books)]
+    return [write(chosen.seed, number) for number in range(chosen.books)]
 
 
 def run(chosen, reasoners):

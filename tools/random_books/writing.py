@@ -1,8 +1,8 @@
 """Random part books, kind by kind.
 
 Each kind is a function that sketches a book in small numbers. `write` then gives the classes, features and parts other
-numbers, in any order, puts the rows in any order and deals the facts to the factory and the site. A book depends on the
-seed and its place in the run alone, so each can be written again by itself.
+numbers, in any order, puts the rows in any order and deals the facts to the factory and the site. The seed and
+its number decide a book, and nothing else does, so each can be written again by itself.
 """
 import random
 from math import gcd
@@ -402,9 +402,9 @@ BROKEN = {"cut": (cut, 5), "damaged": (damaged, 8), "overfull": (overfull, 2)}
 KINDS = list(SOUND) + list(BROKEN)
 
 
-def write(seed, place):
-    """The book at that place of the run that the seed begins: the name of its kind, and its bytes."""
-    pick = random.Random(f"{seed}/{place}")
+def write(seed, number):
+    """The name of a book's kind, and its bytes, which the seed and the number decide."""
+    pick = random.Random(f"{seed}/{number}")
     weights = [weight for _, weight in list(SOUND.values()) + list(BROKEN.values())]
     name = pick.choices(KINDS, weights)[0]
     if name in BROKEN:
