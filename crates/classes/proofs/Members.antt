@@ -1,6 +1,6 @@
 -- The laws of sets of classes: what none, a union and equal sets hold, and how weights go.
 use Rattle.std.proofs.Common.{◌≡◌, ℕ, ◌^◌, ◌<◌, ◌≤◌, true, false, ◌||◌, ap, inl, inr, arith}
-use lib.Bits.{or_add_and, and_le_r}
+use lib.Bits.{or_add_and, and_le_r, or_lt}
 use Rattle.std.proofs.lemmas.Bool.{both_ways, cases_lt}
 use Rattle.classes.specs.declared.ClassSet.{ClassSet}
 use Rattle.classes.specs.Sets.{has, none, all, joined, weight}
@@ -23,6 +23,9 @@ has_joined s t k = bit_of_or s.bits t.bits k
 
 pub joined_more : (s t : ClassSet) → weight s ≤ weight (joined s t)
 joined_more s t = let e = or_add_and s.bits t.bits in let l = and_le_r s.bits t.bits in omega arith
+
+pub joined_low : (s t : ClassSet) → weight s < 2 ^ 64 → weight t < 2 ^ 64 → weight (joined s t) < 2 ^ 64
+joined_low s t = or_lt 64 s.bits t.bits
 
 pub same_weight : (s t : ClassSet) → weight s ≡ weight t → s ≡ t
 same_weight s t e = ap (λ (n : ℕ). let r : ClassSet = record { bits = n } in r) e

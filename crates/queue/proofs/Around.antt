@@ -23,6 +23,9 @@ wrapped_apart n h k j p q r e =
     ]
 
 module _ {X : Type 0} (xs : List X) where
+  pub around_length : (h n : ℕ) → h ≤ length xs → n ≤ length xs → length (around xs h n) ≡ n
+  around_length h n p q = simp (length-take, length-drop, length-append) (omega arith)
+
   twice_at : (k : ℕ) (d : X) → get_or (xs ++ xs) k d ≡ get_or xs (wrapped (length xs) k) d
   twice_at k d =
       elim (wrapped_cases (length xs) k) [

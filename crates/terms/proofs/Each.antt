@@ -1,5 +1,5 @@
 -- What holds of each number below a bound.
-use Rattle.std.proofs.Common.{◌≡◌, ℕ, zero, suc, ◌+◌, ◌<◌, Bool, true, false, sym, refl, subst, inl, inr, add-one, arith}
+use Rattle.std.proofs.Common.{◌≡◌, ℕ, zero, suc, ◌+◌, ◌<◌, ◌≤◌, Bool, true, false, sym, refl, subst, inl, inr, add-one, arith}
 use Rattle.std.proofs.lemmas.Bool.{and_left, and_right, and_from, cases_eq, and_parts}
 use Rattle.terms.specs.Rows.{each_below}
 
@@ -10,6 +10,9 @@ each_none p = refl
 pub each_more : (p : ℕ → Bool) (k : ℕ) → each_below k p ≡ true → p k ≡ true → each_below (k + 1) p ≡ true
 unfolding each_below
 each_more p k h e = rw add-one (and_from (p k) (each_below k p) e h)
+
+pub each_all : (p : ℕ → Bool) (n k : ℕ) → each_below k p ≡ true → k ≤ n → n ≤ k → true ≡ each_below n p
+each_all p n k h a b = let e : k ≡ n = omega arith in rw e at (sym h)
 
 pub each_true : (p : ℕ → Bool) (n : ℕ) → ((k : ℕ) → k < n → p k ≡ true) → each_below n p ≡ true
 unfolding each_below
