@@ -45,7 +45,7 @@ noted S q i j s t ei ej p l hs ht c d =
     met a b h k = ap (λ x. ordered x b) h ∙ ap (λ x. ordered q.left x) k ∙ ordered_self q p
 
 -- what is marked stays
-kept : (T : List (Option Trace)) (i j : ℕ) (e : Option Trace) → mark (get_or T i None) ≡ 0 → 0 < mark (get_or T j None) → get_or (set T i e) j None ≡ get_or T j None
+pub kept : (T : List (Option Trace)) (i j : ℕ) (e : Option Trace) → mark (get_or T i None) ≡ 0 → 0 < mark (get_or T j None) → get_or (set T i e) j None ≡ get_or T j None
 kept T i j e z p = elim (cases_eq j i) [
   | inl w ↦ absurd (let v : mark (get_or T j None) ≡ mark (get_or T i None) = ap (λ k. mark (get_or T k None)) w in omega arith)
   | inr ne ↦ get_or-set_other T i j e None ne
@@ -56,7 +56,7 @@ not_there None z = refl
 not_there (Some t) z = absurd (omega arith)
 
 -- one place fewer is free
-fewer : (T : List (Option Trace)) (i : ℕ) (e : Trace) → i < length T → mark (get_or T i None) ≡ 0 → unmarked (set T i (Some e)) + 1 ≡ unmarked T
+pub fewer : (T : List (Option Trace)) (i : ℕ) (e : Trace) → i < length T → mark (get_or T i None) ≡ 0 → unmarked (set T i (Some e)) + 1 ≡ unmarked T
 fewer T i e l z =
     let s = sum_by-set (λ x. cond (is_none x) 1 0) T i (Some e) None l in
     let a : ◌≡◌ {A = ℕ} (cond (is_none (get_or T i None)) 1 0) 1 = rw (not_there (get_or T i None) z) in

@@ -14,21 +14,21 @@ use Rattle.search.specs.Pairs.{ordered}
 use Rattle.search.specs.Rows.{Bars, Excludes, Excluding}
 use Rattle.terms.specs.Worlds.{Rule, subclass, disjoint, value, pullback, key, features_from, rule_of, rules_of}
 
-abbrev no_row : Row
+abbrev pub no_row : Row
 no_row = record { kind = 0; left = 0; right = 0; count = 0; features = [] }
 
-rule_at : (rows : List Row) (i : ℕ) → i < length rows → get_elem? (rules_of rows) i ≡ some (rule_of (get_or rows i no_row))
+pub rule_at : (rows : List Row) (i : ℕ) → i < length rows → get_elem? (rules_of rows) i ≡ some (rule_of (get_or rows i no_row))
 rule_at [] i h = absurd (omega arith)
 rule_at (r ∷ rows) zero h = refl
 rule_at (r ∷ rows) (suc i) h = rule_at rows i (omega arith)
 
-rule_some : (rows : List Row) (i : ℕ) (x : Rule) → get_elem? (rules_of rows) i ≡ some x → i < length rows
+pub rule_some : (rows : List Row) (i : ℕ) (x : Rule) → get_elem? (rules_of rows) i ≡ some x → i < length rows
 rule_some [] i x e = cc
 rule_some (r ∷ rows) zero x e = omega arith
 rule_some (r ∷ rows) (suc i) x e = let h = rule_some rows i x e in omega arith
 
 -- a row that says an exclusion is of kind 2, with its classes
-kind_2 : (r : Row) (A B : ℕ) → rule_of r ≡ disjoint A B → (r.kind ≡ 2) × (r.left ≡ A) × (r.right ≡ B)
+pub kind_2 : (r : Row) (A B : ℕ) → rule_of r ≡ disjoint A B → (r.kind ≡ 2) × (r.left ≡ A) × (r.right ≡ B)
 kind_2 r A B e = by (eqb r.kind 1) (eqb r.kind 2) (eqb r.kind 3) (eqb r.kind 4) (λ t. eqb-true r.kind 2 t) e
   where
     by : (s t u v : Bool) → (t ≡ true → r.kind ≡ 2)
@@ -45,7 +45,7 @@ module _ (b : Book) (R : List Row) (same : R ≡ rows_of b) (i : ℕ) (q : Class
   abbrev row : Row
   row = get_or R i no_row
 
-  excludes : i < length R → Bars row q → Excludes b i q
+  pub excludes : i < length R → Bars row q → Excludes b i q
   excludes l h = record {
     left = row.left;
     right = row.right;
@@ -56,10 +56,10 @@ module _ (b : Book) (R : List Row) (same : R ≡ rows_of b) (i : ℕ) (q : Class
   rule_is : (x : Excludes b i q) → get_elem? (rules_of R) i ≡ some (disjoint x.left x.right)
   rule_is x = ap (λ (X : List Row). get_elem? (rules_of X) i) same ∙ x.rule
 
-  excludes_low : Excludes b i q → i < length R
+  pub excludes_low : Excludes b i q → i < length R
   excludes_low x = rule_some R i (disjoint x.left x.right) (rule_is x)
 
-  excludes_bars : Excludes b i q → Bars row q
+  pub excludes_bars : Excludes b i q → Bars row q
   excludes_bars x =
       let w : rule_of row ≡ disjoint x.left x.right = some_one (sym (rule_at R i (excludes_low x)) ∙ rule_is x) in
       let k = kind_2 row x.left x.right w in

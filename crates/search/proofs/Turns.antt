@@ -190,7 +190,7 @@ module _ (P : List ClassSet) (b : Book) (N : ClassPair → Type 0) where
     abbrev Tm : List (Option Trace)
     Tm = set T (place_of r) (Some e)
 
-    less : unmarked Tm + 1 ≡ unmarked T
+    pub less : unmarked Tm + 1 ≡ unmarked T
     less = one_fewer T size r e fit z
 
     new_mark : mark_of Tm r ≡ depth

@@ -182,7 +182,7 @@ module _ (P : List ClassSet) (b : Book) where
     abbrev pub next : ℕ → Trace
     next f = record { depth = depth; origin = Step p f }
 
-    step_link : length T ≡ 2080 → (f c d : ℕ) (q : ClassPair) → Proper q → mark_of T q ≡ 0 → q ≡ ordered c d → Led b p f c d
+    pub step_link : length T ≡ 2080 → (f c d : ℕ) (q : ClassPair) → Proper q → mark_of T q ≡ 0 → q ≡ ordered c d → Led b p f c d
         → Source P (set T (place_of q) (Some (next f))) q ⊎ Stepped b (set T (place_of q) (Some (next f))) q
     step_link size f c d q fit z is l = inr (record {
       depth = depth;
