@@ -9,7 +9,7 @@ use judge::judging::judge;
 use judge::sheet::Sheet;
 use layout::{FACT_SIZE, decode};
 use possible::possible;
-use records::reading::{read_book, read_draft};
+use records::reading::{read_book, read_draft, read_rules};
 use search::ClassPair;
 use std::env;
 use std::io::Read;
@@ -17,13 +17,15 @@ use stores::row::RowStore;
 use stores::store::Store;
 use terms::fact::Fact;
 
-// One reading of the rule records: are they accepted?
+// One reading of the rule records at the front: how many there are. Of a refusal it is told only that there is one.
 fn read_once(input: &[u8]) -> anyhow::Result<usize> {
-    Ok(usize::from(read_draft(input).is_ok()))
+    let rules = read_rules(input).ok().context("a record is refused")?;
+    Ok(rules.records)
 }
 
+// The book of a file of rules. Of a refusal it is told only that there is one.
 fn sealed(input: &[u8]) -> anyhow::Result<Book> {
-    let draft = read_draft(input).context("a record is refused")?;
+    let draft = read_draft(input).ok().context("a record is refused")?;
     Ok(draft.seal())
 }
 
@@ -32,12 +34,14 @@ fn seal_once(input: &[u8]) -> anyhow::Result<usize> {
     Ok(usize::from(sealed(input)?.leads(0, 0).has(0)))
 }
 
-// One reading, sealing and asking: is class 0 possible?
+// One reading, sealing and asking: is class 0 possible? Of a refusal it is told only that there is one.
 fn ask_once(input: &[u8]) -> anyhow::Result<usize> {
     let book = sealed(input)?;
     let mut pairs = [ClassPair::default(); 4096];
     let mut parts = [0; 256];
-    let answer = possible(&book, 0, &mut pairs, &mut parts).context("the question is refused")?;
+    let answer = possible(&book, 0, &mut pairs, &mut parts)
+        .ok()
+        .context("the question is refused")?;
     Ok(usize::from(answer))
 }
 

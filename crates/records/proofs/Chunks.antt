@@ -71,12 +71,13 @@ chunked_none g bytes size e =
 
 module _ {g : Group} {bytes : List ℕ} {size : ℕ} {rest : List ℕ} {k : ℕ} (c : Chunked g bytes size rest k) where
   -- the bytes end
-  pub chunked_end : length rest ≡ 0 → (length bytes / size ≡ k) × Ends g k bytes
+  pub chunked_end : length rest ≡ 0 → (length bytes / size ≡ k) × Ends g k bytes × (length bytes ≡ (layout g).size * k)
   chunked_end none =
       let none_left : length (past g k bytes) ≡ 0 = ap length (sym c.behind) ∙ none in
       let full : length bytes ≡ (layout g).size * k = omega (arith, c.inside, length-drop ((layout g).size * k) bytes) in (
         ap (λ (n : ℕ). length bytes / n) c.sized ∙ ap (λ (n : ℕ). n / (layout g).size) full ∙ mul-div_cancel_left k (some_size g),
         record { inside = c.inside; unmarked = ap (marked g) (nil_from_length (past g k bytes) none_left) ∙ marked_none g },
+        full,
       )
 
   module _ (chunk after : List ℕ) (cut : rest ≡ chunk ++ after) (long : length chunk ≡ min size (length rest)) where

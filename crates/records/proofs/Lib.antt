@@ -3,6 +3,7 @@ pub mod Books
 pub mod Stepping
 pub mod Whole
 pub mod Chunks
+pub mod RuleGroups
 pub mod Rows
 pub mod Taking
 pub mod Sites

@@ -1,6 +1,6 @@
 -- Reading the rule records at the front of a file.
-use Rattle.std.proofs.Common.{◌≡◌, ℕ, ◌+◌, min, Bool, true, List, [], ◌∷◌, ◌++◌, length, take, drop, Ok, Err, Result, sym, refl, ap, ◌∙◌, arith}
-use Rattle.std.proofs.lemmas.List.{length_push}
+use Rattle.std.proofs.Common.{◌≡◌, ℕ, suc, ◌+◌, ◌-◌, ◌*◌, min, Bool, true, List, [], ◌∷◌, ◌++◌, length, take, drop, Ok, Err, Result, sym, refl, ap, ◌∙◌, arith}
+use Rattle.std.proofs.lemmas.List.{length-drop, length_push}
 use mathlib.Core.List.Memᴰ
 use Rattle.terms.specs.declared.row.Row.{Row}
 use Rattle.terms.specs.declared.refusal.Refusal.{Refusal}
@@ -10,11 +10,14 @@ use Rattle.book.specs.Drafts.{rule_questions, grown}
 use Rattle.layout.specs.declared.Group.{Group}
 use Rattle.layout.specs.declared.Group.TheVariants.{Rule}
 use Rattle.layout.specs.Layout.{marked, whole, row_in}
+use Rattle.layout.proofs.Records.{mark_two}
 use Rattle.records.specs.Faults.{Refused, at_record, onward}
 use Rattle.records.specs.Books.{no_records, records_in}
 use Rattle.records.specs.Reading.{read_after}
-use Rattle.records.specs.Groups.{past, rows_alone, ReadsOn}
+use Rattle.records.specs.Groups.{past, rows_alone, ReadsOn, Ends}
+use Rattle.records.specs.Rules.{Read, rule_group}
 use Rattle.records.proofs.Chunks.{front_whole, front_row, past_more, Chunked, chunked_none, chunk_there, chunk_marked, chunked_more}
+use Rattle.records.proofs.RuleGroups.{group_ends, group_turn}
 use Rattle.records.proofs.Stepping.{after_mark, marked_turn}
 
 -- whether a call is done is what its questions say, whatever value it answers
@@ -32,9 +35,19 @@ pub record Underway (bytes : List ℕ) (size : ℕ) (rest : List ℕ) (k : ℕ) 
   pub chunks : Chunked Rule bytes size rest k
   pub counted : k ≡ length rows
   pub left : (more : List Group) → ReadsOn (Rule ∷ more) no_records bytes (rows_alone rows) (past Rule k bytes)
+  pub grouped : rule_group (length bytes - k) rows (past Rule k bytes) ≡ rule_group (length bytes) [] bytes
 
 pub underway_none : (bytes : List ℕ) (size : ℕ) → size ≡ 10 → Underway bytes size bytes 0 []
-underway_none bytes size e = record { chunks = chunked_none Rule bytes size e; counted = refl; left = λ more. refl }
+underway_none bytes size e =
+    let all : length bytes - 0 ≡ length bytes = omega arith in
+    record { chunks = chunked_none Rule bytes size e; counted = refl; left = λ more. refl; grouped = ap (λ (n : ℕ). rule_group n [] bytes) all }
+
+-- no record stands after k, and there the group ends
+pub underway_ends : {bytes : List ℕ} {size : ℕ} {rest : List ℕ} {k : ℕ} {rows : List Row} → Underway bytes size rest k rows → Ends Rule k bytes
+    → (end : ℕ) → end ≡ 10 * k → Ok (record { rows = rows; rest = drop end bytes }) ≡ rule_group (length bytes) [] bytes
+underway_ends {bytes = bytes} {k = k} {rows = rows} u ends end e =
+    ap (λ (n : ℕ). let z : Result Read Refused = Ok (record { rows = rows; rest = drop n bytes }) in z) e
+    ∙ sym (group_ends rows (past Rule k bytes) (length bytes - k) ends.unmarked) ∙ u.grouped
 
 module _ {bytes : List ℕ} {size : ℕ} {rest : List ℕ} {k : ℕ} {rows : List Row} (u : Underway bytes size rest k rows)
     (chunk after : List ℕ) (cut : rest ≡ chunk ++ after) (long : length chunk ≡ min size (length rest)) where
@@ -69,8 +82,18 @@ module _ {bytes : List ℕ} {size : ℕ} {rest : List ℕ} {k : ℕ} {rows : Lis
         u.left more ∙ marked_turn (Rule ∷ more) (rows_alone rows) there Rule (Memᴰ.head refl) refl mark (done r) done_there
         ∙ ap (λ (z : Result (Unit {0}) Refused). onward z (λ _. read_after (Rule ∷ more) (rows_alone next_rows) (drop 10 there))) (ap (λ (i : ℕ). at_record i (done r)) n ∙ sym e)
 
+    group_turned : (z : Result (Unit {0}) Refused) → z ≡ at_record k (done r) → rule_group (length bytes) [] bytes ≡ onward z (λ _. rule_group (length bytes - (k + 1)) next_rows (drop 10 there))
+    group_turned z e =
+        let mark : marked Rule there ≡ true = sym (m ∙ chunk_marked u.chunks chunk after cut long) in
+        let less : length bytes - k ≡ suc (length bytes - (k + 1)) = omega (arith, mark_two Rule there mark, length-drop (10 * k) bytes) in
+        sym u.grouped ∙ ap (λ (n : ℕ). rule_group n rows there) less ∙ group_turn rows there (length bytes - (k + 1)) mark (done r) done_there
+        ∙ ap (λ (z : Result (Unit {0}) Refused). onward z (λ _. rule_group (length bytes - (k + 1)) next_rows (drop 10 there))) (ap (λ (i : ℕ). at_record i (done r)) (sym u.counted) ∙ sym e)
+
     pub turn_faults : (f : Refused) → Err f ≡ at_record k (done r) → (more : List Group) → read_after (Rule ∷ more) no_records bytes ≡ Err f
     turn_faults f e more = turned more (Err f) e
+
+    pub group_faults : (f : Refused) → Err f ≡ at_record k (done r) → Err f ≡ rule_group (length bytes) [] bytes
+    group_faults f e = sym (group_turned (Err f) e)
 
     -- the rows are new, and the next record stands ten bytes on
     pub turn_takes : (new : List Row) → Ok tt ≡ at_record k (done r) → new ≡ grown r rows (row_in chunk) → Underway bytes size after (k + 1) new
@@ -84,4 +107,8 @@ module _ {bytes : List ℕ} {size : ℕ} {rest : List ℕ} {k : ℕ} {rows : Lis
           left = λ more.
               turned more (Ok tt) e ∙ ap (read_after (Rule ∷ more) (rows_alone next_rows)) (past_more Rule k bytes)
               ∙ ap (λ (z : List Row). read_after (Rule ∷ more) (rows_alone z) (past Rule (k + 1) bytes)) (sym y);
+          grouped =
+              ap (λ (z : List Row). rule_group (length bytes - (k + 1)) z (past Rule (k + 1) bytes)) y
+              ∙ ap (rule_group (length bytes - (k + 1)) next_rows) (sym (past_more Rule k bytes))
+              ∙ sym (group_turned (Ok tt) e);
         }

@@ -2,5 +2,6 @@
 pub mod Faults
 pub mod Books
 pub mod Reading
+pub mod Rules
 pub mod Groups
 pub mod Opened

@@ -1,5 +1,5 @@
-// Reading a file: its rules alone, or a whole book.
-ghost use Rattle.std.specs.Prelude.{◌≡◌, [], ◌∷◌, ◌<◌, length, nat_lt, Ok};
+// Reading a file: its rules alone, or a whole book; and the rule records at the front of any bytes.
+ghost use Rattle.std.specs.Prelude.{◌≡◌, [], ◌∷◌, ◌<◌, length, drop, nat_lt, Ok};
 ghost use Rattle.terms.specs.Refusals.{ask, asked};
 ghost use Rattle.records.specs.Faults.{at_record, numbered_fault, onward};
 ghost use Rattle.records.specs.Groups.{end_questions};
@@ -9,7 +9,7 @@ ghost use Rattle.records.specs.Reading.{LayoutLaw, all_groups, file_read, rules_
 use crate::Fault;
 use crate::facts::{read_factory, tell_site};
 use crate::opened::Opened;
-use crate::rules::read_rules;
+pub use crate::rules::{RuleGroup, read_rules};
 use book::draft::Draft;
 use layout::Group;
 use stores::additions::Additions;
@@ -29,11 +29,12 @@ fn check_length(bytes: &[u8]) -> Result<(), Fault>
     })
 }
 
-// After the last group nothing may be left.
-fn finish(rest: &[u8], index: usize) -> Result<(), Fault>
-    ensures { numbered_fault result ≡ at_record index (asked (end_questions rest.now) tt) }
+// After the last group, which ends at the given place, nothing may be left; what is left is the record of the given number.
+pub fn finish(bytes: &[u8], at: usize, index: usize) -> Result<(), Fault>
+    ensures { numbered_fault result ≡ at_record index (asked (end_questions (drop at bytes.now)) tt) }
 {
-    let refusal = match rest.len() {
+    let left = bytes.len().saturating_sub(at);
+    let refusal = match left {
         0 => return Ok(()),
         1 => Refusal::RecordCut,
         _ => Refusal::MarkNotAllowed,
@@ -48,7 +49,7 @@ pub fn read_draft(bytes: &[u8]) -> Result<Draft, Fault>
 {
     check_length(bytes)?;
     let rules = read_rules(bytes)?;
-    finish(&bytes[Group::Rule.size() * rules.records..], rules.records)?;
+    finish(bytes, rules.end, rules.records)?;
     Ok(rules.draft)
 }
 
@@ -60,13 +61,13 @@ pub fn read_book(bytes: &[u8]) -> Result<Opened<'_>, Fault>
 {
     check_length(bytes)?;
     let rules = read_rules(bytes)?;
-    let facts = &bytes[Group::Rule.size() * rules.records..];
+    let facts = &bytes[rules.end..];
     let image = read_factory(facts, rules.records)?;
     let site = &facts[Group::Factory.size() * image.count()..];
     let first = rules.records + image.count();
     let mut store = Additions::over(image);
     let told = tell_site(&mut store, site, first)?;
-    finish(&site[Group::Site.size() * told..], first + told)?;
+    finish(site, Group::Site.size() * told, first + told)?;
     Ok(Opened {
         book: rules.draft.seal(),
         store,

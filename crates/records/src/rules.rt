@@ -1,21 +1,23 @@
 // The rule records at the front of a file.
-ghost use Rattle.std.specs.Prelude.{◌≡◌, ◌∷◌, length};
+ghost use Rattle.std.specs.Prelude.{◌≡◌, ◌*◌, [], ◌∷◌, length, IfOk};
 ghost use Rattle.terms.specs.Refusals.{ask, asked, numbered};
 ghost use Rattle.book.specs.Drafts.{grown, listed, rule_questions};
 ghost use Rattle.layout.specs.declared.Group.TheVariants.{Rule};
-ghost use Rattle.layout.specs.Layout.{row_in, whole};
+ghost use Rattle.layout.specs.Layout.{layout, row_in, whole};
 ghost use Rattle.records.specs.Groups.{RulesRead};
+ghost use Rattle.records.specs.Rules.{group_answer, rule_group};
 
 use crate::Fault;
 use book::draft::Draft;
 use layout::{Group, rule_record};
 use terms::refusal::Refusal;
 
-// The draft of the rows, and how many rule records there are.
+// The rule records at the front of the bytes: their rows, how many they are, and where the first byte after them stands.
 #[derive(Drop)]
 pub struct RuleGroup {
     pub draft: Draft,
     pub records: usize,
+    pub end: usize,
 }
 
 // Takes the rule record at the front of the bytes into the draft.
@@ -29,8 +31,11 @@ fn take_rule(bytes: &[u8], draft: &mut Draft) -> Result<u8, Refusal>
 
 // Takes the rule records at the front of the bytes. A row's refusal travels up, and this layer adds the record's number to it: a
 // form that the project keeps (docs/DECISIONS.md).
-pub(crate) fn read_rules(bytes: &[u8]) -> Result<RuleGroup, Fault>
-    ensures { RulesRead bytes.now result }
+pub fn read_rules(bytes: &[u8]) -> Result<RuleGroup, Fault>
+    ensures answer { group_answer result bytes.now ≡ rule_group (length bytes.now) [] bytes.now }
+    ensures counted { IfOk result (λ g. g.records ≡ length (listed g.draft)) }
+    ensures place { IfOk result (λ g. g.end ≡ (layout Rule).size * g.records) }
+    ensures read { RulesRead bytes.now result }
 {
     let size = Group::Rule.size();
     let mut draft = Draft::new();
@@ -39,6 +44,7 @@ pub(crate) fn read_rules(bytes: &[u8]) -> Result<RuleGroup, Fault>
             return Ok(RuleGroup {
                 draft,
                 records: index,
+                end: size * index,
             });
         }
         take_rule(record, &mut draft).map_err(|refusal| Fault { refusal, index })?;
@@ -46,5 +52,6 @@ pub(crate) fn read_rules(bytes: &[u8]) -> Result<RuleGroup, Fault>
     Ok(RuleGroup {
         draft,
         records: bytes.len() / size,
+        end: bytes.len(),
     })
 }

@@ -1,7 +1,6 @@
 // What reading a file of rule records gives, on examples.
 use crate::Fault;
-use crate::reading::read_draft;
-use crate::rules::read_rules;
+use crate::reading::{read_draft, read_rules};
 use std::alloc::{AllocError, Global};
 use std::process::Abort;
 use std::test::Fail;

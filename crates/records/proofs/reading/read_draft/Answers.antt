@@ -1,4 +1,4 @@
-use Rattle.std.proofs.Common.{◌≡◌, ℕ, Bool, cond, ltb, List, [], ◌∷◌, length, Ok, Err, Some, None, Result, sym, refl, ap, ◌∙◌, arith}
+use Rattle.std.proofs.Common.{◌≡◌, ℕ, Bool, cond, ltb, List, [], ◌∷◌, length, drop, Ok, Err, Some, None, Result, sym, ap, ◌∙◌, arith}
 use Rattle.std.proofs.lemmas.Result.{err_from_is_err_and}
 use Rattle.terms.specs.Refusals.{ask, asked}
 use Rattle.book.specs.Drafts.{listed}
@@ -10,7 +10,6 @@ use Rattle.records.specs.Books.{PartBook, records_in}
 use Rattle.records.specs.Reading.{rules_alone, next_group, read_after, file_read}
 use Rattle.records.specs.Groups.{past, rows_alone, RulesRead, end_questions}
 use Rattle.records.proofs.Whole.{file_on}
-use Rattle.records.proofs.Chunks.{slice_past}
 use Rattle.records.proofs.Ending.{ended_as}
 use Rattle.records.proofs.Law.{layout_law}
 use Rattle.records.proofs.reading.read_draft.Goals as goal
@@ -32,12 +31,14 @@ returns-in_err-rules-clause-law c = layout_law _ _
 pub returns-in_err-finish : goal.returns-in_err-finish
 returns-in_err-finish c =
     let p = err_from_is_err_and c.from_residual-in_err-finish.result c.from_residual-in_err-finish.ensures.1 in
-    let a = file_ends c.args.bytes.now c.in_ok-rules.rules (Err (refused c.in_err-finish.field-0.0)) c.in_ok-check_length.ensures c.in_ok-rules.ensures
-    _ (slice_past Rule _ _ _ _ c.size.ensures refl) c.in_err-finish.ensures in
+    let bytes = c.args.bytes.now in
+    let a = file_ends bytes c.in_ok-rules.rules (Err (refused c.in_err-finish.field-0.0)) c.in_ok-check_length.ensures c.in_ok-rules.ensures.read
+    _ (ap (λ (n : ℕ). drop n bytes) c.in_ok-rules.ensures.place) c.in_err-finish.ensures in
     rw (p.1, p.2) (record { answer = a; law = layout_law _ _ })
 
 pub returns : goal.returns
 returns c =
-    let a = file_ends c.args.bytes.now c.in_ok-rules.rules (Ok tt) c.in_ok-check_length.ensures c.in_ok-rules.ensures
-    _ (slice_past Rule _ _ _ _ c.size.ensures refl) c.in_ok-finish.ensures in
+    let bytes = c.args.bytes.now in
+    let a = file_ends bytes c.in_ok-rules.rules (Ok tt) c.in_ok-check_length.ensures c.in_ok-rules.ensures.read
+    _ (ap (λ (n : ℕ). drop n bytes) c.in_ok-rules.ensures.place) c.in_ok-finish.ensures in
     record { answer = a; law = layout_law _ _ }
