@@ -6,7 +6,7 @@ ghost use Rattle.cabinet.specs.Entries.{LogValid};
 
 use arrayvec::ArrayVec;
 use stores::store::Store;
-use stores::told::{Told, answer};
+use stores::told::{Told, answer_lawful};
 use terms::fact::Fact;
 use terms::refusal::Refusal;
 
@@ -104,7 +104,8 @@ impl Store for Cabinet {
         ensures written { in_use self.new ≡ in_use self.old ++ replicate (places_used result) (next_entry self.old fact) }
         ensures kept { (self.new.clock ≡ self.old.clock) × (self.new.panel ≡ self.old.panel) }
     {
-        let told = answer(fact, self.lists(fact), self.free())?;
+        fact.check()?;
+        let told = answer_lawful(fact, self.lists(fact), self.free())?;
         if told == Told::Added {
             self.entries.push(Entry {
                 stamp: self.clock,

@@ -45,6 +45,9 @@ encoded_record [] rest i f h = let z : ◌≡◌ {A = ℕ} 0 1 = cc in absurd (o
 encoded_record (g ∷ facts) rest zero f h = let e : g ≡ f = cc in ap (encoded_fact Factory) e
 encoded_record (g ∷ facts) rest (suc i) f h = record_after g (encoded_facts Factory facts ++ rest) i ∙ encoded_record facts rest i f h
 
+pub encoded_fact_at : (facts : List Fact) (rest : List ℕ) (i : ℕ) (f : Fact) → slice_get facts i ≡ Some f → fact_at (encoded_facts Factory facts ++ rest) i ≡ f
+encoded_fact_at facts rest i f h = ap fact_in (encoded_record facts rest i f h)
+
 nth_there : (facts : List Fact) (i : ℕ) → i < length facts → (f : Fact) × (slice_get facts i ≡ Some f)
 nth_there [] i h = absurd (omega arith)
 nth_there (f ∷ facts) zero h = (f, refl)
@@ -65,7 +68,7 @@ module _ (facts : List Fact) (rest : List ℕ) (m : Meaning facts 0) where
       let lt : p.0 < i = omega arith in
       let lt' : p.0 < length facts = omega arith in
       let t = nth_there facts p.0 lt' in
-      let e : t.0 ≡ f = sym (ap fact_in (encoded_record facts rest p.0 t.0 t.1)) ∙ some_equal (fact_at bytes p.0) f (sym (facts_nth i p.0 bytes lt) ∙ p.1) in
+      let e : t.0 ≡ f = sym (encoded_fact_at facts rest p.0 t.0 t.1) ∙ some_equal (fact_at bytes p.0) f (sym (facts_nth i p.0 bytes lt) ∙ p.1) in
       let x = m.different p.0 i f (t.1 ∙ ap Some e) h in
       omega arith
 

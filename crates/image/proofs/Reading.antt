@@ -1,11 +1,14 @@
 -- The facts of records, place by place.
-use Rattle.std.proofs.Common.{◌≡◌, ℕ, zero, suc, ◌+◌, ◌-◌, ◌*◌, ◌/◌, ◌<◌, ◌≤◌, min, List, [], ◌∷◌, ◌++◌, length, take, drop, get_or, map, Some, refl, ap, ◌∙◌, inl, inr, add-one, arith}
+use Rattle.std.proofs.Common.{◌≡◌, ℕ, zero, suc, ◌+◌, ◌-◌, ◌*◌, ◌/◌, ◌<◌, ◌≤◌, min, Bool, true, false, ◌||◌, List, [], ◌∷◌, ◌++◌, length, take, drop, get_or, map, Some, None, sym, refl, ap, ◌∙◌, inl, inr, add-one, arith}
 use Rattle.std.specs.List.{slice_get}
 use Rattle.std.specs.Simd.{first_chunks}
+use Rattle.std.proofs.lemmas.Option.{slice_get_past}
 use Rattle.std.proofs.lemmas.List.{length_push, drop-drop, drop-take, take-take, map-append}
-use Rattle.std.proofs.lemmas.Bool.{cases_lt}
+use Rattle.std.proofs.lemmas.Bool.{cases_lt, or_left, or_right, or_from}
 use Rattle.terms.specs.declared.fact.Fact.{Fact}
-use Rattle.stores.proofs.Listing.{nth_lower, nth_upper}
+use Rattle.terms.specs.Lawful.{same_fact}
+use Rattle.stores.specs.Meaning.{listed}
+use Rattle.stores.proofs.Listing.{nth_lower, nth_upper, listed_both}
 use Rattle.layout.specs.Layout.{fact_in}
 use Rattle.image.specs.SoundParts.{record_at, fact_at, facts_in, good, good_at}
 
@@ -25,6 +28,32 @@ facts_nth (suc n) i bytes h =
           let e : n ≡ i = omega arith in
           nth_upper (facts_in n bytes) (fact_at bytes n ∷ []) i k ∙ ap (slice_get (fact_at bytes n ∷ [])) z ∙ ap (λ (j : ℕ). Some (fact_at bytes j)) e
     ]
+
+pub facts_past : (n i : ℕ) (bytes : List ℕ) → n ≤ i → slice_get (facts_in n bytes) i ≡ None
+facts_past n i bytes h = slice_get_past (facts_in n bytes) i (rw facts_count h)
+
+or_none : (b : Bool) → (b || false) ≡ b
+or_none true = refl
+or_none false = refl
+
+listed_last : (facts : List Fact) (g f : Fact) → listed (facts ++ g ∷ []) f ≡ (listed facts f || same_fact g f)
+listed_last facts g f = listed_both facts (g ∷ []) f ∙ ap (λ (b : Bool). listed facts f || b) (or_none (same_fact g f))
+
+-- a scan of the records: one that has the fact, and one more that has not
+pub facts_have : (n i : ℕ) (bytes : List ℕ) (f : Fact) → i < n → true ≡ same_fact (fact_at bytes i) f → listed (facts_in n bytes) f ≡ true
+facts_have zero i bytes f h s = absurd (omega arith)
+facts_have (suc n) i bytes f h s =
+    listed_last (facts_in n bytes) (fact_at bytes n) f ∙ elim (cases_lt i n) [
+      | inl l ↦ or_left (listed (facts_in n bytes) f) (same_fact (fact_at bytes n) f) (facts_have n i bytes f l s)
+      | inr g ↦
+          let e : i ≡ n = omega arith in
+          or_right (listed (facts_in n bytes) f) (same_fact (fact_at bytes n) f) (ap (λ (k : ℕ). same_fact (fact_at bytes k) f) (sym e) ∙ sym s)
+    ]
+
+pub facts_lack : (i : ℕ) (bytes : List ℕ) (f : Fact) → listed (facts_in i bytes) f ≡ false → false ≡ same_fact (fact_at bytes i) f → listed (facts_in (i + 1) bytes) f ≡ false
+facts_lack i bytes f h s =
+    ap (λ (k : ℕ). listed (facts_in k bytes) f) (add-one i)
+    ∙ listed_last (facts_in i bytes) (fact_at bytes i) f ∙ or_from (listed (facts_in i bytes) f) (same_fact (fact_at bytes i) f) h (sym s)
 
 -- the records in bytes, as the code has them
 pub chunks_more : (n : ℕ) (bytes : List ℕ) → first_chunks 6 (suc n) bytes ≡ first_chunks 6 n bytes ++ record_at bytes n ∷ []

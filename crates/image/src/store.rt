@@ -4,7 +4,7 @@ ghost use Rattle.image.specs.SoundParts.{ImageValid};
 use crate::{among, sound};
 use layout::{FactRecord, decode};
 use stores::store::Store;
-use stores::told::{Told, answer};
+use stores::told::{Told, answer_lawful};
 use terms::fact::Fact;
 use terms::refusal::Refusal;
 
@@ -65,6 +65,7 @@ impl<'a> Store for ImageStore<'a> {
 
     // No place is ever free, so nothing changes.
     fn tell(&mut self, fact: Fact) -> Result<Told, Refusal> {
-        answer(fact, among(self.records(), fact), self.free())
+        fact.check()?;
+        answer_lawful(fact, among(self.records(), fact), self.free())
     }
 }

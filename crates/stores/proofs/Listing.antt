@@ -1,8 +1,9 @@
 -- Lists of facts: what stands at a place, and whether a fact is listed.
-use Rattle.std.proofs.Common.{◌≡◌, ℕ, zero, suc, ◌-◌, ◌<◌, ◌≤◌, Bool, true, false, eqb, ◌⊎◌, List, [], ◌∷◌, ◌++◌, length, get_or, Some, sym, refl, ap, ◌∙◌, subst, inl, inr, MatchBool, arith}
+use Rattle.std.proofs.Common.{◌≡◌, ℕ, zero, suc, ◌+◌, ◌-◌, ◌<◌, ◌≤◌, Bool, true, false, ◌||◌, eqb, ◌⊎◌, List, [], ◌∷◌, ◌++◌, length, get_or, take, drop, Some, None, sym, refl, ap, ◌∙◌, subst, inl, inr, MatchBool, arith}
 use mathlib.Core.List.Memᴰ
 use Rattle.std.specs.List.{slice_get, range_with_len, HoldsAt, AllWithin}
-use Rattle.std.proofs.lemmas.Option.{slice_get_within}
+use Rattle.std.proofs.lemmas.Option.{slice_get-get_or, slice_get_past, slice_get_within}
+use Rattle.std.proofs.lemmas.List.{get_or-take, length-take-le, at_drop_all}
 use Rattle.std.proofs.lemmas.List.FromFn.{length-range_with_len, get_or-range_with_len}
 use Rattle.std.proofs.lemmas.Bool.{and_parts, and_from, cases_Bool, or_cases, or_left, or_right, eqb-true, eq-eqb}
 use Rattle.terms.specs.declared.fact.Fact.{Fact}
@@ -63,6 +64,11 @@ nth_push (x ∷ facts) g (suc i) f h = elim (nth_push facts g i f h) [ inl a ↦
 pub nth_below : (facts : List Fact) (i : ℕ) (f : Fact) → slice_get facts i ≡ Some f → i < length facts
 nth_below facts i f h = slice_get_within facts i f h
 
+pub nth_some : (facts : List Fact) (i : ℕ) → i < length facts → None ≡ slice_get facts i → ⊥
+nth_some [] i l h = omega arith
+nth_some (g ∷ facts) zero l h = let z : ◌≡◌ {A = ℕ} 0 1 = cc in omega arith
+nth_some (g ∷ facts) (suc i) l h = nth_some facts i (omega arith) h
+
 -- a place of two lists, one after the other
 pub nth_lower : (facts more : List Fact) (i : ℕ) → i < length facts → slice_get (facts ++ more) i ≡ slice_get facts i
 nth_lower [] more i l = absurd (omega arith)
@@ -75,6 +81,41 @@ nth_upper (g ∷ facts) more zero l = absurd (omega arith)
 nth_upper (g ∷ facts) more (suc i) l =
     let e : suc i - suc (length facts) ≡ i - length facts = omega arith in
     nth_upper facts more i (omega arith) ∙ ap (slice_get more) (sym e)
+
+-- a place of the first n rows of a table
+pub nth_row : (n i : ℕ) (rows : List Fact) (d : Fact) → i < n → n ≤ length rows → slice_get (take n rows) i ≡ Some (get_or rows i d)
+nth_row n i rows d l h =
+    let k : i < length (take n rows) = rw length-take-le l in
+    slice_get-get_or (take n rows) i d k ∙ ap Some (get_or-take n rows i d l)
+
+pub nth_row_past : (n i : ℕ) (rows : List Fact) → n ≤ i → n ≤ length rows → slice_get (take n rows) i ≡ None
+nth_row_past n i rows l h = slice_get_past (take n rows) i (rw length-take-le l)
+
+or_assoc : (a b c : Bool) → (a || (b || c)) ≡ ((a || b) || c)
+or_assoc true b c = refl
+or_assoc false b c = refl
+
+pub listed_both : (facts more : List Fact) (f : Fact) → listed (facts ++ more) f ≡ (listed facts f || listed more f)
+listed_both [] more f = refl
+listed_both (g ∷ facts) more f = ap (λ (b : Bool). same_fact g f || b) (listed_both facts more f) ∙ or_assoc (same_fact g f) (listed facts f) (listed more f)
+
+-- a scan of a list: what is left of it from a place on
+pub listed_on : (facts : List Fact) (i : ℕ) (g f : Fact) → Some g ≡ slice_get facts i → listed (drop i facts) f ≡ (same_fact g f || listed (drop (i + 1) facts) f)
+listed_on [] i g f h = let z : ◌≡◌ {A = ℕ} 0 1 = cc in absurd (omega arith)
+listed_on (x ∷ facts) zero g f h = let e : x ≡ g = cc in ap (λ (y : Fact). same_fact y f || listed facts f) e
+listed_on (x ∷ facts) (suc i) g f h =
+    let e : suc i + 1 ≡ suc (i + 1) = omega arith in
+    listed_on facts i g f h ∙ ap (λ (k : ℕ). same_fact g f || listed (drop k (x ∷ facts)) f) (sym e)
+
+pub listed_past : (facts : List Fact) (i : ℕ) (f : Fact) → length facts ≤ i → listed (drop i facts) f ≡ false
+listed_past facts i f l = at_drop_all (λ (xs : List Fact). listed xs f) facts i l
+
+-- the same of the first n rows of a table
+pub listed_row : (n i : ℕ) (rows : List Fact) (d f : Fact) → i < n → n ≤ length rows → listed (drop i (take n rows)) f ≡ (same_fact (get_or rows i d) f || listed (drop (i + 1) (take n rows)) f)
+listed_row n i rows d f l h = listed_on (take n rows) i (get_or rows i d) f (sym (nth_row n i rows d l h))
+
+pub listed_rows : (n i : ℕ) (rows : List Fact) (f : Fact) → n ≤ i → n ≤ length rows → listed (drop i (take n rows)) f ≡ false
+listed_rows n i rows f l h = listed_past (take n rows) i f (rw length-take-le l)
 
 -- a scan of all places
 pub listed_scan : (facts : List Fact) (f : Fact) (n : ℕ) (r : Bool) → n ≡ length facts

@@ -5,7 +5,7 @@ ghost use Rattle.stores.specs.Piles.{pile_facts, pile_room, free_over, PileValid
 
 use crate::calls::lists;
 use crate::store::Store;
-use crate::told::{Told, answer};
+use crate::told::{Told, answer_lawful};
 use arrayvec::ArrayVec;
 use terms::fact::Fact;
 use terms::refusal::Refusal;
@@ -42,11 +42,18 @@ impl<S: Store> Additions<S> {
         below
     }
 
+    // Copies are compared, as in the row store.
+    fn lists_own(&self, fact: Fact) -> bool
+        ensures { result ≡ listed self.now.own.items fact }
+    {
+        self.own.iter().any(|&own| own == fact)
+    }
+
     fn lists(&self, fact: Fact) -> bool
         requires { S.Store.valid self.now.below }
         ensures { result ≡ listed (pile_facts S.Store.facts self.now) fact }
     {
-        lists(&self.below, fact) || self.own.contains(&fact)
+        lists(&self.below, fact) || self.lists_own(fact)
     }
 }
 
@@ -84,7 +91,8 @@ impl<S: Store> Store for Additions<S> {
         ensures unchanged { places_used result ≡ 0 → self.new ≡ self.old }
         ensures lower { self.new.below ≡ self.old.below }
     {
-        let told = answer(fact, self.lists(fact), self.free())?;
+        fact.check()?;
+        let told = answer_lawful(fact, self.lists(fact), self.free())?;
         if told == Told::Added {
             self.own.push(fact);
         }

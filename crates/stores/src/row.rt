@@ -3,7 +3,7 @@ ghost use Rattle.std.specs.Prelude.{◌≡◌, ◌<◌, length, slice_set};
 ghost use Rattle.stores.specs.Tables.{RowsValid};
 
 use crate::store::Store;
-use crate::told::{Told, answer};
+use crate::told::{Told, answer_lawful};
 use terms::fact::Fact;
 use terms::refusal::Refusal;
 
@@ -89,7 +89,8 @@ impl<'a> Store for RowStore<'a> {
         ensures lent { self.new.rows.ghost_name ≡ self.old.rows.ghost_name }
         ensures table { self.new.rows.now ≡ row_facts self.new ++ drop self.new.used self.old.rows.now }
     {
-        let told = answer(fact, self.lists(fact), self.free())?;
+        fact.check()?;
+        let told = answer_lawful(fact, self.lists(fact), self.free())?;
         if told == Told::Added {
             put(self.rows, self.used, fact);
             self.used += 1;

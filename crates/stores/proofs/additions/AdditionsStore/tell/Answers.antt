@@ -7,5 +7,5 @@ pub returns-then-eq-clause-stays : goal.returns-then-eq-clause-stays
 returns-then-eq-clause-stays g c = record {
   lower = c.requires.lower;
   own_few = grind (arith, common_steps);
-  means = means_told _ _ c.args.fact c.answer.result _ _ c.requires.means (grind (arith, common_steps));
+  means = means_told _ _ c.args.fact c.answer_lawful.result _ _ c.requires.means (grind (arith, common_steps));
 }

@@ -8,7 +8,7 @@ pub invariant_of-self : goal.invariant_of-self
 invariant_of-self c = record {
   valid = record {
     within = search rules;
-    means = means_told _ _ c.args.fact c.answer.result _ _ c.args.self.now.valid.means (grind (arith, common_steps));
+    means = means_told _ _ c.args.fact c.answer_lawful.result _ _ c.args.self.now.valid.means (grind (arith, common_steps));
   };
 }
 
