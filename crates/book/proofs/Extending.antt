@@ -23,6 +23,12 @@ widened_more s a more = by (has s a)
     by true = joined_more s more
     by false = omega arith
 
+pub extend_none : (w : List ClassSet) (a : ℕ) (more : ClassSet) → Extending w a more 0 w none
+extend_none w a more = record { each = λ X h. absurd (omega arith); later = λ X _. refl; kept = λ X _. refl }
+
+pub heavier_none : (w : List ClassSet) → Heavier w none w
+heavier_none w = record { least = omega arith; unless = inl refl }
+
 -- nothing to gain
 pub extend_by_none : (w : List ClassSet) (a : ℕ) (more : ClassSet) → weight more ≡ 0 → Extended w a more w none
 extend_by_none w a more e = record {

@@ -1,7 +1,7 @@
 -- The classes and features of lawful rows, and of the rules that they say.
-use Rattle.std.proofs.Common.{◌≡◌, ℕ, zero, suc, ◌+◌, ◌<◌, ◌≤◌, Bool, true, cond, ◌&&◌, eqb, ltb, leb, ◌⊎◌, List, [], ◌∷◌, length, get_or, Ok, Result, sym, refl, ap, ◌∙◌, subst, inl, inr, arith}
+use Rattle.std.proofs.Common.{◌≡◌, ℕ, zero, suc, ◌+◌, ◌<◌, ◌≤◌, Bool, true, false, cond, ◌&&◌, eqb, ltb, leb, ◌⊎◌, List, [], ◌∷◌, length, get_or, Ok, Result, sym, refl, ap, ◌∙◌, subst, inl, inr, arith}
 use mathlib.Core.List.Memᴰ
-use Rattle.std.proofs.lemmas.Bool.{and_parts, ltb-true, eqb-true, leb-true, or_cases, not-true, ltb-false, cases_eq}
+use Rattle.std.proofs.lemmas.Bool.{and_parts, ltb-true, eqb-true, leb-true, or_cases, not-true, ltb-false, cases_eq, cases_Bool}
 use Rattle.std.proofs.lemmas.Bool.Decides.{nat_tests}
 use Rattle.terms.specs.declared.row.Row.{Row}
 use Rattle.terms.specs.declared.refusal.Refusal.{Refusal}
@@ -102,6 +102,13 @@ exclusion_silent r e = subst Silent (sym (rule_2 r e)) (disjoint_silent r.left r
 
 pub keyed_silent : (r : Row) → r.kind ≡ 5 → Silent (rule_of r)
 keyed_silent r e = subst Silent (sym (rule_5 r e)) (key_silent r.left r.right (features_from r 0 r.count))
+
+pub rule_silent : (r : Row) → eqb r.kind 1 ≡ false → eqb r.kind 3 ≡ false → eqb r.kind 4 ≡ false → Silent (rule_of r)
+rule_silent r a b d =
+    rw a (elim (cases_Bool (eqb r.kind 2)) [
+      | inl e ↦ rw e (disjoint_silent r.left r.right)
+      | inr e ↦ rw e (rw b (rw d (key_silent r.left r.right (features_from r 0 r.count))))
+    ])
 
 -- the features in use of a lawful row are low
 features_in : (r : Row) (n k f : ℕ) → k + n ≤ r.count → r.count ≤ 4 → features_low r ≡ true → f ∈ features_from r k n → f < 16

@@ -1,12 +1,15 @@
 -- Steps one after another, and the loop that takes classes from the waiting ones.
-use Rattle.std.proofs.Common.{◌≡◌, ℕ, ◌+◌, ◌*◌, ◌^◌, ◌<◌, true, false, not, eqb, List, sym, ap, ◌∙◌, subst, inl, inr, arith}
+use Rattle.std.proofs.Common.{◌≡◌, ℕ, ◌+◌, ◌*◌, ◌^◌, ◌<◌, true, false, not, ◌&&◌, ◌||◌, eqb, ltb, List, sym, ap, ◌∙◌, subst, inl, inr, arith}
 use lib.Bits.{or_zero_r}
-use Rattle.std.proofs.lemmas.Bool.{or_parts, and_cases, not-false, eqb-true, cases_eq, both_ways, cases_Bool}
+use Rattle.std.proofs.lemmas.Bool.{or_parts, or_left, or_right, and_from, and_cases, not-false, eqb-true, eq-eqb, lt-ltb, cases_eq, both_ways, cases_Bool}
 use Rattle.classes.specs.declared.ClassSet.{ClassSet}
 use Rattle.classes.specs.Sets.{has, none, joined, weight, Took}
 use Rattle.classes.proofs.Members.{has_joined, has_none, empty_none, extensional}
 use Rattle.terms.specs.Worlds.{Rule}
 use Rattle.book.specs.Sealing.{Gathered, Ordered, Served, Step, Heavier, Open, Ready, missing}
+
+pub step_none : (R : List Rule) (w : List ClassSet) → Step R w none w
+step_none R w = record { grew = λ A B h. h; ordered = λ o. o; sound = λ s. s; keeps = λ A f _ s. s }
 
 neither : (g h : ClassSet) (A : ℕ) → has (joined g h) A ≡ false → (has g A ≡ false) × (has h A ≡ false)
 neither g h A e = or_parts (has g A) (has h A) (sym (has_joined g h A) ∙ e)
@@ -98,3 +101,10 @@ measure_less w v waiting rest again a fit t h =
   where
     same : (s : ClassSet) → weight (joined s none) ≡ weight s
     same s = or_zero_r s.bits
+
+-- one class more in a set that is to have all
+pub all_more : (s t : ClassSet) (n : ℕ) → n < 64 → ((k : ℕ) → has t k ≡ (has s k || (eqb k n && ltb k 64)))
+    → ((k : ℕ) → k < n → has s k ≡ true) → (k : ℕ) → k < n + 1 → has t k ≡ true
+all_more s t n l h old k m =
+    h k ∙ elim (cases_eq k n)
+    [ inl e ↦ or_right _ _ (and_from _ _ (eq-eqb k n e) (lt-ltb k 64 (omega arith))) | inr ne ↦ or_left _ _ (old k (omega arith)) ]

@@ -1,11 +1,11 @@
 -- What rule answers, and its law.
-use Rattle.std.proofs.Common.{◌≡◌, ℕ, true, List, [], ◌∷◌, ◌++◌, length, Ok, Result, sym, refl, ap}
-use Rattle.std.proofs.lemmas.Bool.{and_from, and_parts, lt-ltb, ltb-true}
+use Rattle.std.proofs.Common.{◌≡◌, ℕ, ◌<◌, ◌≤◌, Bool, true, cond, ltb, List, [], ◌∷◌, ◌++◌, length, Ok, Err, Result, sym, refl, ap, ◌∙◌}
+use Rattle.std.proofs.lemmas.Bool.{and_from, and_parts, lt-ltb, le-ltb, ltb-true}
 use Rattle.terms.specs.declared.row.Row.{Row}
 use Rattle.terms.specs.declared.refusal.Refusal.{Refusal}
-use Rattle.terms.specs.Refusals.{asked, AllYes, numbered}
+use Rattle.terms.specs.Refusals.{ask, asked, AllYes, numbered}
 use Rattle.terms.specs.Rows.{row_questions, lawful, all_lawful, kind_known, classes_low, features_low}
-use Rattle.terms.proofs.Asking.{answers, numbered_ok}
+use Rattle.terms.proofs.Asking.{answers, asked_on, asked_no, numbered_ok}
 use Rattle.book.specs.Drafts.{rule_questions, RuleLaw}
 
 pub lawful_yes : (row : Row) → lawful row ≡ true → AllYes (row_questions row)
@@ -32,9 +32,19 @@ module _ (rows : List Row) (row : Row) where
         refused = a.refused;
       }
 
+  -- a row that its own questions refuse
+  pub row_refused : (n : ℕ) → ◌≡◌ {A = Result (Unit {0}) ℕ} (Err n) (asked (row_questions row) tt) → Err n ≡ asked (rule_questions rows row) (length rows)
+  row_refused n e = sym (asked_no (row_questions row) (ask 5 (ltb (length rows) 256) ∷ []) tt (length rows) n (sym e))
+
   -- a lawful row
   pub row_lawful : ◌≡◌ {A = Result (Unit {0}) ℕ} (Ok tt) (asked (row_questions row) tt) → lawful row ≡ true
   row_lawful e = yes_lawful row ((answers tt (row_questions row) (asked (row_questions row) tt) refl).accepted.0 (sym e))
+
+  pub no_row_free : ◌≡◌ {A = Result (Unit {0}) ℕ} (Ok tt) (asked (row_questions row) tt) → 256 ≤ length rows → Err 5 ≡ asked (rule_questions rows row) (length rows)
+  no_row_free e h = sym (asked_on (row_questions row) (ask 5 (ltb (length rows) 256) ∷ []) tt (length rows) (sym e) ∙ ap (λ (b : Bool). cond {A = Result ℕ ℕ} b (Ok (length rows)) (Err 5)) (le-ltb _ 256 h))
+
+  pub row_free : ◌≡◌ {A = Result (Unit {0}) ℕ} (Ok tt) (asked (row_questions row) tt) → length rows < 256 → Ok (length rows) ≡ asked (rule_questions rows row) (length rows)
+  row_free e h = sym (asked_on (row_questions row) (ask 5 (ltb (length rows) 256) ∷ []) tt (length rows) (sym e) ∙ ap (λ (b : Bool). cond {A = Result ℕ ℕ} b (Ok (length rows)) (Err 5)) (lt-ltb _ 256 h))
 
 -- the rows with one row more
 pub lawful_push : (rows : List Row) (row : Row) → all_lawful rows ≡ true → lawful row ≡ true → all_lawful (rows ++ row ∷ []) ≡ true

@@ -1,4 +1,4 @@
--- What the inner functions of sealing promise each other; no public call cites this file.
+-- What the inner functions of sealing promise each other. Public calls cite two definitions of it: `Direct` (`Book::links`), with those that it is made of, and `Gathered` (`gather`).
 use Rattle.std.specs.Prelude.{◌≡◌, ℕ, ◌+◌, ◌-◌, ◌^◌, ◌<◌, ◌≤◌, true, false, cond, ◌⊎◌, ◌↔◌, List, [], ◌∷◌, length, slice_index_or}
 use Rattle.classes.specs.declared.ClassSet.{ClassSet}
 use Rattle.classes.specs.Sets.{has, joined, weight}

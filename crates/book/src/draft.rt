@@ -39,7 +39,9 @@ impl Draft {
     {
         row.check()?;
         // A row number fits a u8 exactly when a row is free.
-        let number = u8::try_from(self.rows.len()).map_err(|_| Refusal::DraftFull)?;
+        let Ok(number) = u8::try_from(self.rows.len()) else {
+            return Err(Refusal::DraftFull);
+        };
         self.rows.push(row);
         Ok(number)
     }

@@ -34,8 +34,10 @@ impl Book {
         ensures { rows_of result ≡ rows.items }
     {
         let links = Links::of(rows.as_slice());
-        let tables = StepTables::of(&links);
-        Book { rows, tables }
+        Book {
+            tables: StepTables::of(&links),
+            rows,
+        }
     }
 
     // The rows, by their numbers.

@@ -21,11 +21,14 @@ impl StepTables {
     pub(crate) fn of(links: &Links) -> StepTables
         ensures { (R : List Rule) → Direct R links.now → Steps R result.within result.leads }
     {
-        let mut within = reflexive();
-        links.climb(&mut within);
-        links.settle(&mut within);
-        let leads = links.leads(&within);
-        StepTables { within, leads }
+        let mut tables = StepTables {
+            within: reflexive(),
+            leads: [[ClassSet::NONE; 64]; 16],
+        };
+        links.climb(&mut tables.within);
+        links.settle(&mut tables.within);
+        links.lead(&tables.within, &mut tables.leads);
+        tables
     }
 }
 
@@ -62,11 +65,13 @@ impl FeatureLinks {
         gather(within, next)
     }
 
-    // The classes that each class leads to by the feature.
-    fn leads(&self, within: &[ClassSet; 64]) -> [ClassSet; 64]
-        ensures { EachLed within.now self.now.ahead result }
+    // Writes the classes that each class leads to by the feature into the table.
+    fn lead(&self, within: &[ClassSet; 64], table: &mut [ClassSet; 64])
+        ensures { EachLed within.now self.now.ahead table.new }
     {
-        within.map(|set| self.led(within, set))
+        for (class, set) in within.iter().enumerate() {
+            table[class] = self.led(within, *set);
+        }
     }
 }
 
@@ -106,14 +111,12 @@ impl Links {
         }
     }
 
-    // The classes that each class leads to, feature by feature.
-    fn leads(&self, within: &[ClassSet; 64]) -> [[ClassSet; 64]; 16]
-        ensures { AllLed within.now self.now result }
+    // Writes the classes that each class leads to, feature by feature, into the tables.
+    fn lead(&self, within: &[ClassSet; 64], tables: &mut [[ClassSet; 64]; 16])
+        ensures { AllLed within.now self.now tables.new }
     {
-        self.by_feature.each_ref().map(
-            |by: &FeatureLinks| -> [ClassSet; 64]
-                ensures { EachLed within.entry.now by.now.ahead result }
-            { by.leads(within) },
-        )
+        for (feature, by) in self.by_feature.iter().enumerate() {
+            by.lead(within, &mut tables[feature]);
+        }
     }
 }

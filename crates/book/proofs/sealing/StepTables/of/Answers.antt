@@ -3,6 +3,6 @@ use Rattle.book.proofs.sealing.StepTables.of.Goals as goal
 
 pub returns : goal.returns
 returns c R d =
-    let start = c.reflexive-within.result in
-    let ready = c.climb.ensures R d (alone_sound start c.reflexive-within.ensures R) (alone_ordered start c.reflexive-within.ensures) in
-    exact R d.legal c.settle.new.within (c.settle.ensures R d ready) c.args.links.now c.leads-leads.result d c.leads-leads.ensures
+    let start = c.reflexive.result in
+    let ready = c.climb.ensures R d (alone_sound start c.reflexive.ensures R) (alone_ordered start c.reflexive.ensures) in
+    exact R d.legal c.settle.new.within (c.settle.ensures R d ready) c.args.links.now c.lead.new.tables d c.lead.ensures
