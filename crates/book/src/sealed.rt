@@ -34,10 +34,8 @@ impl Book {
         ensures { rows_of result ≡ rows.items }
     {
         let links = Links::of(rows.as_slice());
-        Book {
-            tables: StepTables::of(&links),
-            rows,
-        }
+        let tables = StepTables::of(&links);
+        Book { rows, tables }
     }
 
     // The rows, by their numbers.

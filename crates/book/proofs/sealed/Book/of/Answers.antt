@@ -7,5 +7,5 @@ invariant_of-result c =
     let d = rw c.as_slice.ensures.value at c.of-links.ensures in record {
       room = rw c.as_slice.ensures.value at c.as_slice.ensures.fits;
       lawful = c.requires;
-      steps = ∣ c.of.ensures (rules_of rows) d ∣₁;
+      steps = ∣ c.of-tables.ensures (rules_of rows) d ∣₁;
     }
