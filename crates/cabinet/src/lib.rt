@@ -68,7 +68,7 @@ impl Cabinet {
     fn lists(&self, fact: Fact) -> bool
         ensures { result ≡ listed (log_facts self.now) fact }
     {
-        self.entries.iter().any(|entry| entry.fact == fact)
+        self.entries.iter().any(|&entry| entry.fact == fact)
     }
 }
 
@@ -105,7 +105,7 @@ impl Store for Cabinet {
         ensures kept { (self.new.clock ≡ self.old.clock) × (self.new.panel ≡ self.old.panel) }
     {
         fact.check()?;
-        let told = answer_lawful(fact, self.lists(fact), self.free())?;
+        let told = answer_lawful(self.lists(fact), self.free())?;
         if told == Told::Added {
             self.entries.push(Entry {
                 stamp: self.clock,

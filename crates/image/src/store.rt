@@ -66,6 +66,6 @@ impl<'a> Store for ImageStore<'a> {
     // No place is ever free, so nothing changes.
     fn tell(&mut self, fact: Fact) -> Result<Told, Refusal> {
         fact.check()?;
-        answer_lawful(fact, among(self.records(), fact), self.free())
+        answer_lawful(among(self.records(), fact), self.free())
     }
 }

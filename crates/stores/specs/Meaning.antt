@@ -45,9 +45,13 @@ abbrev pub places_used : Result Told Refusal → ℕ
 places_used (Ok t) = (saying t).places
 places_used (Err e) = 0
 
+-- is the fact listed already, or a place free?
+abbrev pub place_questions : Bool → ℕ → List Question
+place_questions is_listed free = ask 6 (is_listed || nat_lt 0 free) ∷ []
+
 -- the questions of tell, in their order: those of the fact, then whether it is listed already or a place is free
 abbrev pub answer_questions : Bool → ℕ → Fact → List Question
-answer_questions is_listed free f = fact_questions f ++ (ask 6 (is_listed || nat_lt 0 free) ∷ [])
+answer_questions is_listed free f = fact_questions f ++ place_questions is_listed free
 
 -- the word by which a fact is accepted, by whether it is listed already
 abbrev pub answer_accepted : Bool → List ℕ

@@ -92,7 +92,7 @@ impl<S: Store> Store for Additions<S> {
         ensures lower { self.new.below ≡ self.old.below }
     {
         fact.check()?;
-        let told = answer_lawful(fact, self.lists(fact), self.free())?;
+        let told = answer_lawful(self.lists(fact), self.free())?;
         if told == Told::Added {
             self.own.push(fact);
         }

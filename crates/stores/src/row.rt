@@ -90,7 +90,7 @@ impl<'a> Store for RowStore<'a> {
         ensures table { self.new.rows.now ≡ row_facts self.new ++ drop self.new.used self.old.rows.now }
     {
         fact.check()?;
-        let told = answer_lawful(fact, self.lists(fact), self.free())?;
+        let told = answer_lawful(self.lists(fact), self.free())?;
         if told == Told::Added {
             put(self.rows, self.used, fact);
             self.used += 1;

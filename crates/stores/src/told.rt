@@ -1,8 +1,7 @@
 // How a fact was accepted, and what a store answers to a fact.
-ghost use Rattle.std.specs.Prelude.{◌≡◌, ◌≤◌, Some, Ok};
+ghost use Rattle.std.specs.Prelude.{◌≡◌, ◌≤◌, Some};
 ghost use Rattle.terms.specs.Refusals.{asked};
-ghost use Rattle.terms.specs.Lawful.{fact_questions};
-ghost use Rattle.stores.specs.Meaning.{saying, worded, places_used, answer_questions, answer_accepted};
+ghost use Rattle.stores.specs.Meaning.{saying, worded, places_used, place_questions, answer_questions, answer_accepted};
 
 use std::fmt;
 use terms::fact::Fact;
@@ -41,15 +40,14 @@ pub fn answer(fact: Fact, listed: bool, free: usize) -> Result<Told, Refusal>
     ensures place { places_used result ≤ free }
 {
     fact.check()?;
-    answer_lawful(fact, listed, free)
+    answer_lawful(listed, free)
 }
 
-// The same where the fact's own questions were asked already. A make's own `tell` asks those before it scans its list, so
-// that an unlawful fact costs no scan; then it asks this, and writes the fact where the answer is `Added`. That is all that
-// the `tell`s share, since each has clauses of its own.
-pub fn answer_lawful(fact: Fact, listed: bool, free: usize) -> Result<Told, Refusal>
-    requires { asked (fact_questions fact) (tt {0}) ≡ Ok tt }
-    ensures answer { worded result ≡ asked (answer_questions listed free fact) (answer_accepted listed) }
+// What is left to ask of a fact whose own questions all had yes. A make's own `tell` asks those first, by `check`, so that an
+// unlawful fact costs no scan of its list; then it asks this, and writes the fact where the answer is `Added`. That is all
+// that the `tell`s share, since each has clauses of its own.
+pub fn answer_lawful(listed: bool, free: usize) -> Result<Told, Refusal>
+    ensures answer { worded result ≡ asked (place_questions listed free) (answer_accepted listed) }
     ensures place { places_used result ≤ free }
 {
     if listed {
