@@ -68,7 +68,7 @@ impl Cabinet {
     fn lists(&self, fact: Fact) -> bool
         ensures { result ≡ listed (log_facts self.now) fact }
     {
-        self.entries.iter().any(|&entry| entry.fact == fact)
+        self.entries.iter().any(|entry| entry.fact.same(fact))
     }
 }
 
