@@ -67,7 +67,7 @@ module _ (T : List (Option Trace)) (size : length T ≡ 2080) (r : ClassPair) (e
   abbrev T' : List (Option Trace)
   T' = set T (place_of r) (Some e)
 
-  inside : place_of r < length T
+  pub inside : place_of r < length T
   inside = omega (arith, place_below r fit)
 
   pub new_entry : entry_of T' r ≡ Some e
