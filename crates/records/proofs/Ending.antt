@@ -1,5 +1,5 @@
 -- The end of a file, where no record can follow.
-use Rattle.std.proofs.Common.{◌≡◌, ℕ, Bool, true, false, not, eqb, List, [], ◌∷◌, length, Ok, Err, None, Result, sym, refl, ap, ◌∙◌, inl, inr, arith}
+use Rattle.std.proofs.Common.{◌≡◌, ℕ, ◌≤◌, Bool, true, false, not, eqb, List, [], ◌∷◌, length, Ok, Err, None, Result, sym, refl, ap, ◌∙◌, inl, inr, arith}
 use Rattle.std.proofs.lemmas.Bool.{cases_lt, ne_eqb}
 use Rattle.terms.specs.Refusals.{ask, asked}
 use Rattle.layout.specs.declared.Group.{Group}
@@ -8,6 +8,18 @@ use Rattle.records.specs.Books.{PartBook, records_in}
 use Rattle.records.specs.Reading.{next_group, next_questions, read_after}
 use Rattle.records.specs.Groups.{end_questions}
 use Rattle.records.proofs.Stepping.{asked_by, after_nothing, after_refused}
+
+-- what the file ends with
+pub ends_empty : (rest : List ℕ) → length rest ≡ 0 → asked (end_questions rest) (tt {0}) ≡ Ok tt
+ends_empty rest e = ap (λ (n : ℕ). asked (ask 12 (not (eqb n 1)) ∷ ask 13 (eqb n 0) ∷ []) (tt {0})) e
+
+pub ends_lone : (rest : List ℕ) → length rest ≡ 1 → asked (end_questions rest) (tt {0}) ≡ Err 12
+ends_lone rest e = ap (λ (n : ℕ). asked (ask 12 (not (eqb n 1)) ∷ ask 13 (eqb n 0) ∷ []) (tt {0})) e
+
+pub ends_more : (rest : List ℕ) → 2 ≤ length rest → asked (end_questions rest) (tt {0}) ≡ Err 13
+ends_more rest h =
+    ap (λ (b : Bool). asked (ask 12 (not b) ∷ ask 13 (eqb (length rest) 0) ∷ []) (tt {0})) (ne_eqb (length rest) 1 (λ e. omega arith))
+    ∙ ap (λ (b : Bool). asked (ask 13 b ∷ []) (tt {0})) (ne_eqb (length rest) 0 (λ e. omega arith))
 
 no_of_two : (t q : Bool) → q ≡ false → (n : ℕ) × (asked (ask 12 t ∷ ask 13 q ∷ []) (tt {0}) ≡ Err n)
 no_of_two true q e = (13, ap (λ (u : Bool). asked (ask 13 u ∷ []) (tt {0})) e)

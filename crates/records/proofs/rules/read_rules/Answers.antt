@@ -1,4 +1,4 @@
-use Rattle.std.proofs.Common.{◌≡◌, ℕ, ◌*◌, ◌/◌, length, Ok, Err, rules, sym, ap, ◌∙◌}
+use Rattle.std.proofs.Common.{◌≡◌, ℕ, ◌/◌, length, Ok, Err, rules, sym, ap, ◌∙◌}
 use Rattle.std.proofs.lemmas.Result.{err_from_is_err_and}
 use Rattle.terms.specs.Refusals.{done}
 use Rattle.book.specs.Drafts.{listed}
@@ -15,8 +15,13 @@ returns-then-not-marks c =
     let s = c.in-Some.ensures.steps in
     let u = c.loop-index.invariant in
     let ends = chunk_ends u.chunks c.in-Some.record.now _ s.0.1.0 s.0.1.1 c.if-not-marks.ensures in
-    let place = ap (λ (n : ℕ). n * c.loop-index.index-iterator.count) c.size-size.ensures in
-    rw s.1 (record { answer = underway_ends u ends _ place; counted = u.counted; place = place; read = (u.counted, ends, u.left) })
+    let sized = c.size-size.ensures in
+    rw s.1 (record {
+      answer = underway_ends u ends _ (search (sized, rules));
+      counted = u.counted;
+      place = search (sized, rules);
+      read = (u.counted, ends, u.left);
+    })
 
 pub loop-index-preserved : goal.loop-index-preserved
 loop-index-preserved c =
