@@ -403,7 +403,7 @@ KINDS = list(SOUND) + list(BROKEN)
 
 
 def write(seed, number):
-    """The name of a book's kind, and its bytes, which the seed and the number decide."""
+    """One book: the name of its kind, and its bytes. Both follow from the two arguments alone."""
     pick = random.Random(f"{seed}/{number}")
     weights = [weight for _, weight in list(SOUND.values()) + list(BROKEN.values())]
     name = pick.choices(KINDS, weights)[0]

@@ -5,6 +5,7 @@ use Rattle.std.specs.Simd.{first_chunks}
 use Rattle.std.proofs.lemmas.Option.{slice_get_past}
 use Rattle.std.proofs.lemmas.List.{length_push, drop-drop, drop-take, take-take, map-append}
 use Rattle.std.proofs.lemmas.Bool.{cases_lt, or_left, or_right, or_from}
+use Rattle.std.proofs.Math.Bool.{or-false}
 use Rattle.terms.specs.declared.fact.Fact.{Fact}
 use Rattle.terms.specs.Lawful.{same_fact}
 use Rattle.stores.specs.Meaning.{listed}
@@ -32,12 +33,8 @@ facts_nth (suc n) i bytes h =
 pub facts_past : (n i : ℕ) (bytes : List ℕ) → n ≤ i → slice_get (facts_in n bytes) i ≡ None
 facts_past n i bytes h = slice_get_past (facts_in n bytes) i (rw facts_count h)
 
-or_none : (b : Bool) → (b || false) ≡ b
-or_none true = refl
-or_none false = refl
-
 listed_last : (facts : List Fact) (g f : Fact) → listed (facts ++ g ∷ []) f ≡ (listed facts f || same_fact g f)
-listed_last facts g f = listed_both facts (g ∷ []) f ∙ ap (λ (b : Bool). listed facts f || b) (or_none (same_fact g f))
+listed_last facts g f = listed_both facts (g ∷ []) f ∙ ap (λ (b : Bool). listed facts f || b) (or-false (same_fact g f))
 
 -- a scan of the records: one that has the fact, and one more that has not
 pub facts_have : (n i : ℕ) (bytes : List ℕ) (f : Fact) → i < n → true ≡ same_fact (fact_at bytes i) f → listed (facts_in n bytes) f ≡ true

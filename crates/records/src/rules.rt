@@ -1,11 +1,11 @@
 // The rule records at the front of a file.
-ghost use Rattle.std.specs.Prelude.{◌≡◌, ◌*◌, [], ◌∷◌, length, IfOk};
-ghost use Rattle.terms.specs.Refusals.{ask, asked, numbered};
-ghost use Rattle.book.specs.Drafts.{grown, listed, rule_questions};
+ghost use Rattle.std.specs.Prelude.{◌≡◌, ◌*◌, [], length, IfOk};
+ghost use Rattle.terms.specs.Refusals.{asked, numbered};
+ghost use Rattle.book.specs.Drafts.{grown, listed};
 ghost use Rattle.layout.specs.declared.Group.TheVariants.{Rule};
-ghost use Rattle.layout.specs.Layout.{layout, row_in, whole};
+ghost use Rattle.layout.specs.Layout.{layout, row_in};
 ghost use Rattle.records.specs.Groups.{RulesRead};
-ghost use Rattle.records.specs.Rules.{group_answer, rule_group};
+ghost use Rattle.records.specs.Rules.{group_answer, record_questions, rule_group};
 
 use crate::Fault;
 use book::draft::Draft;
@@ -22,7 +22,7 @@ pub struct RuleGroup {
 
 // Takes the rule record at the front of the bytes into the draft.
 fn take_rule(bytes: &[u8], draft: &mut Draft) -> Result<u8, Refusal>
-    ensures answer { numbered result ≡ asked (ask 12 (whole Rule bytes.now) ∷ rule_questions (listed draft.old) (row_in bytes.now)) (length (listed draft.old)) }
+    ensures answer { numbered result ≡ asked (record_questions (listed draft.old) bytes.now) (length (listed draft.old)) }
     ensures after { listed draft.new ≡ grown result (listed draft.old) (row_in bytes.now) }
 {
     let row = rule_record(bytes)?;

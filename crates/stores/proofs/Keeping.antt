@@ -8,12 +8,12 @@ use Rattle.std.proofs.lemmas.Bool.{and_parts, and_from, or_from, or_left, or_rig
 use Rattle.terms.specs.declared.fact.Fact.{Fact}
 use Rattle.terms.specs.declared.refusal.Refusal.{Refusal}
 use Rattle.terms.specs.declared.refusal.Refusal.TheVariants.{NoFreePlace}
-use Rattle.terms.specs.Refusals.{Question, ask, asked, number}
+use Rattle.terms.specs.Refusals.{asked, number}
 use Rattle.terms.specs.Lawful.{fact_kind_known, fact_class_low, fact_feature_low, fact_unused_zero, fact_questions, lawful_fact}
 use Rattle.terms.proofs.Asking.{all_yes, answers, asked_on, asked_no}
 use Rattle.stores.specs.declared.told.Told.{Told}
 use Rattle.stores.specs.declared.told.Told.TheVariants.{Added, Already}
-use Rattle.stores.specs.Meaning.{Meaning, listed, tell_questions, accepted_as, worded, places_used, Tells}
+use Rattle.stores.specs.Meaning.{Meaning, listed, place_questions, tell_questions, accepted_as, worded, places_used, Tells}
 use Rattle.stores.proofs.Listing.{in_listed, nth_in, nth_push}
 
 -- a fact whose questions were asked and had yes is lawful, and the other way round
@@ -65,14 +65,10 @@ means_more facts free f m q l h =
 
 -- the answers of tell: a fact whose own questions had yes is accepted where it is listed or a place is free
 module _ (facts : List Fact) (free : ℕ) (f : Fact) where
-  place_asked : List Question
-  place_asked = ask 6 (listed facts f || ltb 0 free) ∷ []
-
   on_place : (b : Bool) → (listed facts f || ltb 0 free) ≡ b → asked (fact_questions f) (tt {0}) ≡ Ok tt
       → asked (tell_questions facts free f) (accepted_as facts f) ≡ cond b (Ok (accepted_as facts f)) (Err 6)
-  unfolding place_asked
   on_place b h q =
-      asked_on (fact_questions f) place_asked tt (accepted_as facts f) q
+      asked_on (fact_questions f) (place_questions (listed facts f) free) tt (accepted_as facts f) q
       ∙ ap (λ (x : Bool). let z : Result (List ℕ) ℕ = cond x (Ok (accepted_as facts f)) (Err 6) in z) h
 
   pub answers_already : asked (fact_questions f) (tt {0}) ≡ Ok tt → listed facts f ≡ true → asked (tell_questions facts free f) (accepted_as facts f) ≡ Ok (codes "already")
@@ -94,8 +90,7 @@ module _ (facts : List Fact) (free : ℕ) (f : Fact) where
   }
 
   pub tells_unlawful : (e : Refusal) → Err (number e) ≡ asked (fact_questions f) (tt {0}) → Tells facts free f (Err e) facts free
-  unfolding place_asked
-  tells_unlawful e q = nothing_added (Err e) refl (sym (asked_no (fact_questions f) place_asked tt (accepted_as facts f) (number e) (sym q)))
+  tells_unlawful e q = nothing_added (Err e) refl (sym (asked_no (fact_questions f) (place_questions (listed facts f) free) tt (accepted_as facts f) (number e) (sym q)))
 
   pub tells_already : asked (fact_questions f) (tt {0}) ≡ Ok tt → listed facts f ≡ true → Tells facts free f (Ok Already) facts free
   tells_already q l = nothing_added (Ok Already) refl (sym (answers_already q l))

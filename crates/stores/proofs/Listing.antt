@@ -6,6 +6,7 @@ use Rattle.std.proofs.lemmas.Option.{slice_get-get_or, slice_get_past, slice_get
 use Rattle.std.proofs.lemmas.List.{get_or-take, length-take-le, at_drop_all}
 use Rattle.std.proofs.lemmas.List.FromFn.{length-range_with_len, get_or-range_with_len}
 use Rattle.std.proofs.lemmas.Bool.{and_parts, and_from, cases_Bool, or_cases, or_left, or_right, eqb-true, eq-eqb}
+use Rattle.std.proofs.Math.Bool.{or_assoc}
 use Rattle.terms.specs.declared.fact.Fact.{Fact}
 use Rattle.terms.specs.Lawful.{same_fact}
 use Rattle.terms.specs.Worlds.{◌∈◌}
@@ -91,13 +92,9 @@ nth_row n i rows d l h =
 pub nth_row_past : (n i : ℕ) (rows : List Fact) → n ≤ i → n ≤ length rows → slice_get (take n rows) i ≡ None
 nth_row_past n i rows l h = slice_get_past (take n rows) i (rw length-take-le l)
 
-or_assoc : (a b c : Bool) → (a || (b || c)) ≡ ((a || b) || c)
-or_assoc true b c = refl
-or_assoc false b c = refl
-
 pub listed_both : (facts more : List Fact) (f : Fact) → listed (facts ++ more) f ≡ (listed facts f || listed more f)
 listed_both [] more f = refl
-listed_both (g ∷ facts) more f = ap (λ (b : Bool). same_fact g f || b) (listed_both facts more f) ∙ or_assoc (same_fact g f) (listed facts f) (listed more f)
+listed_both (g ∷ facts) more f = ap (λ (b : Bool). same_fact g f || b) (listed_both facts more f) ∙ sym (or_assoc (same_fact g f) (listed facts f) (listed more f))
 
 -- a scan of a list: what is left of it from a place on
 pub listed_on : (facts : List Fact) (i : ℕ) (g f : Fact) → Some g ≡ slice_get facts i → listed (drop i facts) f ≡ (same_fact g f || listed (drop (i + 1) facts) f)
